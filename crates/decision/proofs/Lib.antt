@@ -1,0 +1,4 @@
+pub mod Adding
+pub mod Widen
+pub mod Windows
+pub mod Unique

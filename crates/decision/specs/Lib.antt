@@ -1,0 +1,4 @@
+pub mod Least
+pub mod Responses
+pub mod Decisions
+pub mod Determined

@@ -1,0 +1,4 @@
+pub mod Rows
+pub mod Reportable
+pub mod Writing
+pub mod Unique

@@ -1,0 +1,5 @@
+pub mod Policies
+pub mod Tasks
+pub mod Verdicts
+pub mod Answers
+pub mod Determined

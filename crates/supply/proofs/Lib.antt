@@ -1,0 +1,4 @@
+pub mod Closed
+pub mod Ahead
+pub mod Spending
+pub mod Periodic

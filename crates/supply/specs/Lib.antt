@@ -1,0 +1,6 @@
+pub mod Grants
+pub mod Questions
+pub mod Runs
+pub mod Least
+pub mod Server
+pub mod Reserved
