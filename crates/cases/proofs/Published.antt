@@ -6,7 +6,8 @@ use Prim.Native.Nat.{ℕ, zero, suc, _+_, _-_, _≤_, _<_}
 use native.Mathlib.Omega.{arith}
 use Rattle.arith.specs.Quotients.{ceiling}
 use Rattle.arith.proofs.Quotients.{ceiling-covers}
-use Rattle.supply.specs.Server.{periodic-bound, fresh}
+use Rattle.supply.specs.Periodic.{periodic-bound}
+use Rattle.supply.specs.Server.{fresh}
 use Rattle.supply.proofs.Closed.{bound-closed, from-start-at, from-start-size}
 use Rattle.supply.proofs.Periodic.{server-superadditive}
 use Rattle.table.specs.declared.row.Row.{Row}

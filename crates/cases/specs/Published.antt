@@ -6,7 +6,7 @@ use native.Mathlib.Omega.{arith}
 use Rattle.std.specs.declared.result.Result.the-variants.{Ok, Err}
 use Rattle.fault.specs.declared.Layer.the-variants.{Decision}
 use Rattle.fault.specs.Layers.{fault-of}
-use Rattle.supply.specs.Server.{periodic-bound}
+use Rattle.supply.specs.Periodic.{periodic-bound}
 use Rattle.table.specs.declared.row.Row.{Row}
 use Rattle.table.specs.Rows.{In-bounds}
 use Rattle.decision.specs.Decisions.{Prioritised, Scheduled, open-fault}

@@ -17,7 +17,8 @@ use Rattle.fault.specs.Layers.{fault-of}
 use Rattle.fault.specs.Steps.{map-ok}
 use Rattle.text.specs.declared.triple.Triple.{Triple}
 use Rattle.text.specs.Reading.{table-read}
-use Rattle.supply.specs.Server.{periodic-bound, server-bound}
+use Rattle.supply.specs.Periodic.{periodic-bound}
+use Rattle.supply.specs.Server.{server-bound}
 use Rattle.table.specs.declared.row.Row.{Row}
 use Rattle.table.specs.Tables.{rows-of}
 use Rattle.decision.specs.Decisions.{Prioritised, Scheduled}

@@ -8,7 +8,8 @@ use native.Mathlib.Omega.{arith}
 use lib.Dec.{leb, eqb}
 use Rattle.std.proofs.shelf.Tests.{cases-lt, eqb-true, eqb-false, and-parts}
 use Rattle.supply.specs.Grants.{grant, spent}
-use Rattle.supply.specs.Server.{periodic-bound, grants, granted-owed, withheld-room}
+use Rattle.supply.specs.Periodic.{periodic-bound, grants}
+use Rattle.supply.specs.Ranges.{granted-owed, withheld-room}
 use Rattle.supply.proofs.Closed.{from-start, from-start-zero, from-start-more, from-start-turn, bound-closed}
 
 -- with e ticks left in the period and r owed

@@ -11,7 +11,7 @@ use lib.Dec.{leb, ltb}
 use Rattle.std.proofs.shelf.Tests.{cases-lt, leb-true, leb-false, lt-ltb, cond-both}
 use Rattle.arith.specs.Quotients.{ceiling}
 use Rattle.arith.proofs.Quotients.{ceiling-digits}
-use Rattle.supply.specs.Server.{periodic-bound}
+use Rattle.supply.specs.Periodic.{periodic-bound}
 
 -- q grants in each of the whole periods of u ticks, and those of the last part
 unfoldable pub from-start : ℕ → ℕ → ℕ → ℕ

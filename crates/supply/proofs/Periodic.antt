@@ -18,7 +18,8 @@ use Rattle.supply.specs.Grants.{spent}
 use Rattle.supply.specs.Runs.{run, granted}
 use Rattle.supply.specs.Least.{Least-grants}
 use Rattle.supply.specs.Reserved.{In-range}
-use Rattle.supply.specs.Server.{periodic-bound, server-bound, server-grants, server-next, server-step, server-floor, fresh, Worst-case}
+use Rattle.supply.specs.Periodic.{periodic-bound}
+use Rattle.supply.specs.Server.{server-bound, server-grants, server-next, server-step, server-floor, fresh, Worst-case}
 use Rattle.supply.proofs.Closed.{from-start, from-start-at, bound-closed}
 use Rattle.supply.proofs.Ahead.{ahead, ahead-bound, ahead-none, ahead-spending, ahead-spent}
 use Rattle.supply.proofs.Spending.{granted-floor}
