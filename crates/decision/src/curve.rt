@@ -3,7 +3,7 @@ ghost use mathlib.Core.Path.{_≡_};
 ghost use Prim.Native.Nat.{ℕ, _≤_};
 ghost use Rattle.decision.specs.Least.{Rises};
 
-pub trait Curve {
+pub(crate) trait Curve {
     // Its height at a time.
     ghost height: { Self → ℕ → ℕ };
 

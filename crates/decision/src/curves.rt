@@ -11,13 +11,13 @@ use table::Table;
 
 // S(t).
 #[derive(Clone, Copy)]
-pub struct Requested<'a> {
+pub(crate) struct Requested<'a> {
     pub table: &'a Table,
 }
 
 // W(i, t), with rows counted from 0.
 #[derive(Clone, Copy)]
-pub struct Workload<'a> {
+pub(crate) struct Workload<'a> {
     pub table: &'a Table,
     pub row: usize,
     ghost within: { row < length (rows-of (now table)) },
@@ -25,23 +25,23 @@ pub struct Workload<'a> {
 
 // H(t).
 #[derive(Clone, Copy)]
-pub struct Demand<'a> {
+pub(crate) struct Demand<'a> {
     pub table: &'a Table,
 }
 
 // B(t).
 #[derive(Drop)]
-pub struct Promise<'a, S> {
+pub(crate) struct Promise<'a, S> {
     pub supply: &'a S,
 }
 
 // B(t) + 1, the least that the supply does not promise.
 #[derive(Drop)]
-pub struct Beyond<'a, S> {
+pub(crate) struct Beyond<'a, S> {
     pub supply: &'a S,
 }
 
-pub impl<'a> Curve for Requested<'a> as RequestedCurve {
+pub(crate) impl<'a> Curve for Requested<'a> as RequestedCurve {
     ghost height = { λ c t. requested (rows-of (now (c .table))) t };
 
     fn at(&self, t: u32) -> u32 {
@@ -49,7 +49,7 @@ pub impl<'a> Curve for Requested<'a> as RequestedCurve {
     }
 }
 
-pub impl<'a> Curve for Workload<'a> as WorkloadCurve {
+pub(crate) impl<'a> Curve for Workload<'a> as WorkloadCurve {
     ghost height = { λ c t. workload (rows-of (now (c .table))) (c .row) t };
 
     fn at(&self, t: u32) -> u32 {
@@ -57,7 +57,7 @@ pub impl<'a> Curve for Workload<'a> as WorkloadCurve {
     }
 }
 
-pub impl<'a> Curve for Demand<'a> as DemandCurve {
+pub(crate) impl<'a> Curve for Demand<'a> as DemandCurve {
     ghost height = { λ c t. demand (rows-of (now (c .table))) t };
 
     fn at(&self, t: u32) -> u32 {
@@ -65,7 +65,7 @@ pub impl<'a> Curve for Demand<'a> as DemandCurve {
     }
 }
 
-pub impl<'a, S: Supply> Curve for Promise<'a, S> as PromiseCurve {
+pub(crate) impl<'a, S: Supply> Curve for Promise<'a, S> as PromiseCurve {
     ghost height = { λ c t. S·Supply .bound (now (c .supply)) t };
 
     fn at(&self, t: u32) -> u32 {
@@ -76,7 +76,7 @@ pub impl<'a, S: Supply> Curve for Promise<'a, S> as PromiseCurve {
     }
 }
 
-pub impl<'a, S: Supply> Curve for Beyond<'a, S> as BeyondCurve {
+pub(crate) impl<'a, S: Supply> Curve for Beyond<'a, S> as BeyondCurve {
     ghost height = { λ c t. S·Supply .bound (now (c .supply)) t + 1 };
 
     fn at(&self, t: u32) -> u32 {

@@ -25,7 +25,7 @@ fn halved<C: Curve>(curve: &C, mark: u32, mut low: u32, mut high: u32) -> u32
 }
 
 // A time from `from` to `last` at which the curve is still below `mark`: the last before it would reach it if it rose
-// by one in each tick, as a supply's bound does at most, or `from` itself.
+// by one in each tick, as a periodic server's bound does at most, or `from` itself.
 fn guessed<C: Curve>(curve: &C, mark: u32, height: u32, from: u32, last: u32) -> u32
     requires order { ⌜ from ≤ last ⌝ }
     requires time { ⌜ last ≤ 1000000 ⌝ }
@@ -71,7 +71,7 @@ fn reached<C: Curve>(curve: &C, mark: u32, from: u32, last: u32) -> Option<u32>
 
 // The least time from `from` to `last` at which `given` is as high as `asked`. From a time t it goes on to the least
 // at which `given` is as high as `asked` is at t, since at none between can it be as high as `asked` is there.
-pub fn met<A: Curve, G: Curve>(asked: &A, given: &G, from: u32, last: u32) -> Option<u32>
+pub(crate) fn met<A: Curve, G: Curve>(asked: &A, given: &G, from: u32, last: u32) -> Option<u32>
     requires time { ⌜ last ≤ 1000000 ⌝ }
     ensures { λ r. ⌜ Found (λ t. A·Curve .height (now (asked .entry)) t ≤ G·Curve .height (now (given .entry)) t) from last r ⌝ }
 {

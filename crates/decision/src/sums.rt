@@ -6,7 +6,7 @@ ghost use Rattle.table.specs.Sums.{requested, workload, demand};
 use table::Row;
 
 // S(t).
-pub fn requested(rows: &[Row], t: u32) -> u32
+pub(crate) fn requested(rows: &[Row], t: u32) -> u32
     requires few { ⌜ length (now rows) ≤ 16 ⌝ }
     requires time { ⌜ t ≤ 1000000 ⌝ }
     ensures is { λ r. ⌜ r ≡ requested (now (rows .entry)) t ⌝ }
@@ -21,7 +21,7 @@ pub fn requested(rows: &[Row], t: u32) -> u32
 }
 
 // W(i, t), with rows counted from 0.
-pub fn workload(rows: &[Row], i: usize, t: u32) -> u32
+pub(crate) fn workload(rows: &[Row], i: usize, t: u32) -> u32
     requires few { ⌜ length (now rows) ≤ 16 ⌝ }
     requires row { ⌜ i < length (now rows) ⌝ }
     requires time { ⌜ t ≤ 1000000 ⌝ }
@@ -31,7 +31,7 @@ pub fn workload(rows: &[Row], i: usize, t: u32) -> u32
 }
 
 // H(t).
-pub fn demand(rows: &[Row], t: u32) -> u32
+pub(crate) fn demand(rows: &[Row], t: u32) -> u32
     requires few { ⌜ length (now rows) ≤ 16 ⌝ }
     requires time { ⌜ t ≤ 1000000 ⌝ }
     ensures { λ r. ⌜ r ≡ demand (now (rows .entry)) t ⌝ }

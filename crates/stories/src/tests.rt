@@ -1,4 +1,5 @@
 // What a branch does with the library, one story a test.
+ghost use mathlib.Core.Path.{_≡_};
 use decision::busy_window;
 use decision::earliest_deadline;
 use decision::fixed_priority;
@@ -19,7 +20,9 @@ use text::Triple;
 use text::read_table;
 use text::write_table;
 
-fn triple(first: u32, second: u32, third: u32) -> Triple {
+fn triple(first: u32, second: u32, third: u32) -> Triple
+    ensures { λ r. ⌜ (r .first ≡ first) × (r .second ≡ second) × (r .third ≡ third) ⌝ }
+{
     Triple {
         first,
         second,
