@@ -6,7 +6,7 @@ use Prim.Native.Nat.{ℕ, zero, suc, _+_, _-_, _≤_, _<_}
 use native.Mathlib.Omega.{arith}
 use Rattle.arith.specs.Quotients.{ceiling}
 use Rattle.arith.proofs.Quotients.{ceiling-covers}
-use Rattle.supply.specs.Periodic.{periodic-bound}
+use Rattle.supply.specs.Periodic.{In-range, periodic-bound}
 use Rattle.supply.specs.Server.{fresh}
 use Rattle.supply.proofs.Closed.{bound-closed, from-start-at, from-start-size}
 use Rattle.supply.proofs.Periodic.{server-superadditive}
@@ -21,7 +21,7 @@ pub server-bounds : Server-bounds
 unfolding periodic-bound ceiling
 server-bounds = (refl, refl, refl, refl, refl, refl)
 
-superadditive : (q p : ℕ) → (1 ≤ q) × (q ≤ p) × (p ≤ 100000) → (a b : ℕ) → periodic-bound q p a + periodic-bound q p b ≤ periodic-bound q p (a + b)
+superadditive : (q p : ℕ) → In-range q p → (a b : ℕ) → periodic-bound q p a + periodic-bound q p b ≤ periodic-bound q p (a + b)
 superadditive q p h = server-superadditive (fresh q p h)
 
 two-window : Window two-rows (periodic-bound 2 4) 14

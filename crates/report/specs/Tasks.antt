@@ -11,7 +11,7 @@ use Rattle.fault.specs.declared.Layer.the-variants as layer
 use Rattle.fault.specs.Layers.{fault-of}
 use Rattle.text.specs.declared.triple.Triple.{Triple}
 use Rattle.text.specs.Reading.{table-read}
-use Rattle.supply.specs.Reserved.{In-range}
+use Rattle.supply.specs.Periodic.{In-range}
 use Rattle.supply.specs.Server.{fresh}
 use Rattle.table.specs.declared.row.Row.{Row}
 use Rattle.table.specs.declared.table.Table.{Table}

@@ -8,7 +8,7 @@ use native.Mathlib.Omega.{arith}
 use lib.Dec.{leb, eqb}
 use Rattle.std.proofs.shelf.Tests.{cases-lt, eqb-true, eqb-false, and-parts}
 use Rattle.supply.specs.Grants.{grant, spent}
-use Rattle.supply.specs.Periodic.{periodic-bound, grants}
+use Rattle.supply.specs.Periodic.{In-range, In-period, Owed, periodic-bound, grants}
 use Rattle.supply.specs.Ranges.{granted-owed, withheld-room}
 use Rattle.supply.proofs.Closed.{from-start, from-start-zero, from-start-more, from-start-turn, bound-closed}
 
@@ -19,7 +19,7 @@ ahead q p e r t = min r (t - (e - r)) + from-start q p (t - e)
 granted-full : (e r : ℕ) → grants e r false ≡ true → r ≡ e
 granted-full e r h = eqb-true r e (and-parts (leb 1 r) (eqb r e) h .1)
 
-module _ (q p e r : ℕ) (range : (1 ≤ q) × (q ≤ p) × (p ≤ 100000)) (time : (1 ≤ e) × (e ≤ p)) (due : (r ≤ q) × (r ≤ e) × (e + q ≤ p + r)) where
+module _ (q p e r : ℕ) (range : In-range q p) (time : In-period p e) (due : Owed q p e r) where
   -- it is at least the bound
   pub ahead-bound : (t : ℕ) → periodic-bound q p t ≤ ahead q p e r t
   ahead-bound t =

@@ -17,8 +17,7 @@ use Rattle.supply.specs.declared.server.PeriodicServer.{PeriodicServer}
 use Rattle.supply.specs.Grants.{spent}
 use Rattle.supply.specs.Runs.{run, granted}
 use Rattle.supply.specs.Least.{Least-grants}
-use Rattle.supply.specs.Reserved.{In-range}
-use Rattle.supply.specs.Periodic.{periodic-bound}
+use Rattle.supply.specs.Periodic.{In-range, In-period, Owed, periodic-bound}
 use Rattle.supply.specs.Server.{server-bound, server-grants, server-next, server-step, server-floor, fresh, Worst-case}
 use Rattle.supply.proofs.Closed.{from-start, from-start-at, bound-closed}
 use Rattle.supply.proofs.Ahead.{ahead, ahead-bound, ahead-none, ahead-spending, ahead-spent}
@@ -106,7 +105,7 @@ spent-ahead q p e r t h is none =
     let m : from-start q p (t - e) ≡ from-start q p (t - (p - q)) = ap (λ (x : ℕ). from-start q p (t - x)) is in
     omega arith
 
-full-ahead : (q p e r t : ℕ) → In-range q p → (1 ≤ e) × (e ≤ p) → (r ≤ q) × (r ≤ e) × (e + q ≤ p + r) → q ≡ p → ahead q p e r t ≡ periodic-bound q p t
+full-ahead : (q p e r t : ℕ) → In-range q p → In-period p e → Owed q p e r → q ≡ p → ahead q p e r t ≡ periodic-bound q p t
 full-ahead q p e r t h time due is =
     let l = bound-closed q p (h .0) (h .1) t in
     let all : (u : ℕ) → from-start q p u ≡ u = λ u. (let w = from-start-at q p (h .0) (h .1) u in let d = div-add-mod' u p in let m : u / p * q ≡ u / p * p = ap (λ (x : ℕ). u / p * x) is in omega arith) in

@@ -1,8 +1,20 @@
 -- A periodic server in numbers: q ticks in every period of p. Assumes nothing.
 use mathlib.Core.Bool.{Bool, cond, _&&_, _||_}
-use Prim.Native.Nat.{ℕ, _+_, _-_, _*_}
+use Prim.Native.Nat.{ℕ, _+_, _-_, _*_, _≤_}
 use lib.Dec.{eqb, leb, ltb}
 use Rattle.arith.specs.Quotients.{ceiling}
+
+-- a budget and a period that can be reserved
+abbrev pub In-range : ℕ → ℕ → Type 0
+In-range q p = (1 ≤ q) × (q ≤ p) × (p ≤ 100000)
+
+-- e ticks are left in a period of p
+abbrev pub In-period : ℕ → ℕ → Type 0
+In-period p e = (1 ≤ e) × (e ≤ p)
+
+-- r grants are owed in them: no more than the budget and the ticks left, and no more was granted than ticks have passed
+abbrev pub Owed : ℕ → ℕ → ℕ → ℕ → Type 0
+Owed q p e r = (r ≤ q) × (r ≤ e) × (e + q ≤ p + r)
 
 -- B(t), by the published formula, for a budget of q ticks in every period of p: with k = ⌈(t − (p − q)) / p⌉,
 --   0 for t up to p − q,

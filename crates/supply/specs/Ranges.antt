@@ -2,11 +2,11 @@
 use mathlib.Core.Path.{_≡_}
 use mathlib.Core.Bool.{Bool, true, false, cond, _||_}
 use mathlib.Core.Logic.{⊎-elim}
-use Prim.Native.Nat.{ℕ, _+_, _-_, _≤_, _<_}
+use Prim.Native.Nat.{ℕ, _-_, _≤_, _<_}
 use native.Mathlib.Omega.{arith}
 use lib.Dec.{eqb, leb}
 use Rattle.std.proofs.shelf.Tests.{leb-true, leb-false, eqb-false, and-parts, and-cases, or-parts}
-use Rattle.supply.specs.Periodic.{grants}
+use Rattle.supply.specs.Periodic.{In-range, In-period, Owed, grants}
 
 pub granted-owed : (remaining owed : ℕ) (offer : Bool) → grants remaining owed offer ≡ true → 1 ≤ owed
 granted-owed remaining owed offer h = leb-true 1 owed (and-parts (leb 1 owed) (offer || eqb owed remaining) h .0)
@@ -17,13 +17,13 @@ withheld-room remaining owed offer one le h =
     (λ z. let k : owed ≡ remaining → ⊥ = eqb-false owed remaining (or-parts offer (eqb owed remaining) z .1) in omega arith)
     (and-cases (leb 1 owed) (offer || eqb owed remaining) h)
 
-pub time-after : (p e : ℕ) → (1 ≤ e) × (e ≤ p) → (b : Bool) → eqb e 1 ≡ b → (1 ≤ cond b p (e - 1)) × (cond b p (e - 1) ≤ p)
+pub time-after : (p e : ℕ) → In-period p e → (b : Bool) → eqb e 1 ≡ b → In-period p (cond b p (e - 1))
 time-after p e h true k = (omega arith, omega arith)
 time-after p e h false k = let ne : e ≡ 1 → ⊥ = eqb-false e 1 k in (omega arith, omega arith)
 
-pub due-after : (q p e r : ℕ) → (1 ≤ q) × (q ≤ p) × (p ≤ 100000) → (1 ≤ e) × (e ≤ p) → (r ≤ q) × (r ≤ e) × (e + q ≤ p + r) → (offer : Bool)
+pub due-after : (q p e r : ℕ) → In-range q p → In-period p e → Owed q p e r → (offer : Bool)
     → (g : Bool) → grants e r offer ≡ g → (b : Bool) → eqb e 1 ≡ b
-    → (cond b q (r - cond g 1 0) ≤ q) × (cond b q (r - cond g 1 0) ≤ cond b p (e - 1)) × (cond b p (e - 1) + q ≤ p + cond b q (r - cond g 1 0))
+    → Owed q p (cond b p (e - 1)) (cond b q (r - cond g 1 0))
 due-after q p e r range time due offer g k true l = (omega arith, omega arith, omega arith)
 due-after q p e r range time due offer true k false l =
     let some : 1 ≤ r = granted-owed e r offer k in

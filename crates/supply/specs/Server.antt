@@ -1,14 +1,14 @@
 -- A periodic server: its bound, its floor and its step. Assumes nothing.
 use mathlib.Core.Path.{_≡_, refl}
 use mathlib.Core.Bool.{Bool, true, false}
-use Prim.Native.Nat.{ℕ, zero, suc, _+_, _≤_}
+use Prim.Native.Nat.{ℕ, zero, suc, _+_}
 use native.Mathlib.Omega.{arith}
 use lib.Dec.{eqb}
 use lib.ListN.{replicate}
 use Rattle.supply.specs.declared.grant.Grant.{Grant}
 use Rattle.supply.specs.declared.server.PeriodicServer.{PeriodicServer}
 use Rattle.supply.specs.Grants.{grant, spent}
-use Rattle.supply.specs.Periodic.{periodic-bound, grants, remaining-after, owed-after}
+use Rattle.supply.specs.Periodic.{In-range, periodic-bound, grants, remaining-after, owed-after}
 use Rattle.supply.specs.Ranges.{time-after, due-after}
 use Rattle.supply.specs.Runs.{run, granted}
 
@@ -39,7 +39,7 @@ server-floor s zero = 0
 server-floor s (suc t) = spent (server-step s false .0) + server-floor (server-next s false) t
 
 -- the start of a period
-abbrev pub fresh : (q p : ℕ) → (1 ≤ q) × (q ≤ p) × (p ≤ 100000) → PeriodicServer
+abbrev pub fresh : (q p : ℕ) → In-range q p → PeriodicServer
 fresh q p h = record {
   budget = q;
   period = p;

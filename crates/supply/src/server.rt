@@ -1,5 +1,5 @@
 // A periodic server's state: a budget of ticks in every period, which ticks being the host's affair.
-ghost use Prim.Native.Nat.{_+_, _≤_};
+ghost use Rattle.supply.specs.Periodic.{In-range, In-period, Owed};
 
 pub mod reserve;
 pub mod serve;
@@ -11,8 +11,7 @@ pub struct PeriodicServer {
     period: u32,
     remaining: u32,
     owed: u32,
-    ghost range: { (1 ≤ budget) × (budget ≤ period) × (period ≤ 100000) },
-    ghost time: { (1 ≤ remaining) × (remaining ≤ period) },
-    // What is owed fits the budget and the ticks that are left, and no more was granted than ticks have passed.
-    ghost due: { (owed ≤ budget) × (owed ≤ remaining) × (remaining + budget ≤ period + owed) },
+    ghost range: { In-range budget period },
+    ghost time: { In-period period remaining },
+    ghost due: { Owed budget period remaining owed },
 }

@@ -1,7 +1,7 @@
 use mathlib.Core.Path.{refl, sym, subst}
 use native.Mathlib.Omega.{arith}
 use Rattle.supply.specs.Least.{Least-grants}
-use Rattle.supply.specs.Reserved.{In-range}
+use Rattle.supply.specs.Periodic.{In-range}
 use Rattle.supply.specs.Server.{fresh, server-bound, server-step, Worst-case}
 use Rattle.supply.proofs.Periodic.{same-server, least-grants, worst-case}
 use Rattle.supply.proofs.server.PeriodicServer.new.Needs as need
