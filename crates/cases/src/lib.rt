@@ -1,4 +1,6 @@
 // Worked cases of the literature and of the rules, checked against the definitions by one theorem.
+#![tactic(auto)]
+
 ghost use Rattle.cases.specs.Published.{ServerBounds, TwoRows, ThreeRows, ShortDeadline, SmallBudget, FullProcessor, OverFull, NoRows};
 
 // The definitions that the decisions' contracts cite give, on these cases, the published figures.

@@ -2,6 +2,8 @@
 //
 // `window`, `priority` and `deadline` are the three decisions, and `determined` says that each has one answer only.
 // Behind them stand the sums over a table's rows, these and the supply's bound as curves, and one search over curves.
+#![tactic(auto)]
+
 mod curve;
 mod curves;
 pub mod deadline;

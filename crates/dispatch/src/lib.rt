@@ -2,6 +2,8 @@
 //
 // What a run does with them is defined in specs/, over any supply and any order; the crates above prove their code
 // against it.
+#![tactic(auto)]
+
 pub mod call;
 pub mod job;
 pub mod reply;

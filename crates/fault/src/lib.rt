@@ -1,4 +1,6 @@
 // The one record in which every layer refuses: which rule was broken, who saw it, and where.
+#![tactic(auto)]
+
 ghost use Rattle.std.specs.Prelude.{◌≡◌};
 ghost use Rattle.fault.specs.Layers.{layer_number};
 

@@ -1,4 +1,6 @@
 // Tells in words what is decided on a fixing's table text, which it reads from standard input.
+#![tactic(auto)]
+
 use decision::Responses;
 use fault::Fault;
 use names::step_name;

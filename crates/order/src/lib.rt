@@ -2,6 +2,8 @@
 //
 // `interface` is all that the crates above know of an order: its keys, its test and their laws. `priority` and
 // `deadline` are the two orders.
+#![tactic(auto)]
+
 pub mod deadline;
 pub mod interface;
 pub mod priority;

@@ -3,6 +3,8 @@
 // `words` reads and writes lists of numbers; `setting` reads from a script what a run is made of, and `answer` puts what
 // a call answered into numbers; `play` carries out the calls of a script, and `measure` passes many ticks. `export` is
 // what C calls.
+#![tactic(auto)]
+
 mod answer;
 pub mod export;
 mod measure;

@@ -1,4 +1,6 @@
 // A recorded list of calls, run again: what a new run answers to each, and what holds of every such list.
+#![tactic(auto)]
+
 ghost use Rattle.std.specs.Prelude.{◌≡◌, ℕ, IfOk, Ok};
 ghost use Rattle.table.specs.Tables.{rows_of};
 ghost use Rattle.decision.specs.Decisions.{Window};

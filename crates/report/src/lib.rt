@@ -3,6 +3,8 @@
 // The way through: `task` reads the text into a policy, a server and a table; `verdict` decides; `answer` says the
 // verdict, or the fault of whatever refused, in lines, and `report` writes them. `export` is the same call for C, and
 // `determined` says that each text has one report only.
+#![tactic(auto)]
+
 pub mod answer;
 pub mod determined;
 pub mod export;

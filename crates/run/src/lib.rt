@@ -2,6 +2,8 @@
 //
 // `run` is what a user holds: a supply, an order and a dispatcher. `dispatcher` holds the pending jobs, the clock and the
 // counters; `serve` is what a tick does to the rows.
+#![tactic(auto)]
+
 mod counters;
 mod dispatcher;
 mod rows;

@@ -1,4 +1,6 @@
 // What support does with a branch's recording: the day is run again over the branch's reservation.
+#![tactic(auto)]
+
 pub mod failure;
 pub mod recording;
 

@@ -1,4 +1,6 @@
 // The texts in which numbers come and go: up to 17 lines of three fields, read into triples and written from them.
+#![tactic(auto)]
+
 mod field;
 mod line;
 mod lines;

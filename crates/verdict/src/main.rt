@@ -1,4 +1,6 @@
 // Reads a table text from standard input, and writes the report on it to standard output.
+#![tactic(auto)]
+
 use std::io;
 use std::io::{Read, Write};
 
