@@ -10,8 +10,8 @@ use Rattle.run.specs.View.{state_of}
 use Rattle.replay.proofs.Turns.{one_more, no_more}
 use Rattle.replay.proofs.replay.Goals as goal
 
-pub returns-in-err-push : goal.returns-in-err-push
-returns-in-err-push g c =
+pub returns-in_err-push : goal.returns-in_err-push
+returns-in_err-push g c =
     record {
       replies = search rules;
       accepted-table-misses-no-job = search rules;
@@ -31,7 +31,7 @@ loop-i-preserved g c =
     let told : ◌≡◌ {A = Reply} c.reply.result (reply step (by c.loop-i.run.order) call st) = c.reply.ensures.reply in
     let left : state_of c.reply.new.self ≡ after step (by c.loop-i.run.order) call st = c.reply.ensures.state in (
       one_more step goes cs c.loop-i.i (vec_items c.loop-i.replies) _ st c.loop-i.invariant.0 (Release 0) (vec_items c.push.new.self) c.reply.result (state_of c.reply.new.self)
-          c.loop-i-test.true c.in-ok-push.ensures.items
+          c.loop-i-test.true c.in_ok-push.ensures.items
           (told ∙ ap (λ o. reply step (by o) call st) c.loop-i.invariant.1)
           (left ∙ ap (λ o. after step (by o) call st) c.loop-i.invariant.1),
       c.reply.ensures.order ∙ c.loop-i.invariant.1,

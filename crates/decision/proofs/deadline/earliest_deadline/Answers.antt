@@ -10,8 +10,8 @@ pub returns-in-None : goal.returns-in-None
 returns-in-None g c =
     let B : ℕ → ℕ = g.S.Supply.bound c.args.supply.now in
     let rs : List Row = rows_of c.args.table.now in
-    let l : ℕ = c.in-ok-window.window in
-    let w = c.in-ok-window.ensures in
+    let l : ℕ = c.in_ok-window.window in
+    let w = c.in_ok-window.ensures in
     let below : (t : ℕ) → t < l → demand rs t ≤ B t = λ t lt.
     elim (dec_lt (B t) (demand rs t)) [
       | yes q ↦ absurd (c.in-None.ensures t (omega arith) (omega arith) q)

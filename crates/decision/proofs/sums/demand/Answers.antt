@@ -9,13 +9,13 @@ use Rattle.decision.proofs.sums.demand.Goals as goal
 pub loop-row-init : goal.loop-row-init
 loop-row-init c = (omega arith, sym (total_none (due_work c.args.t)))
 
-pub overflow-mul-sum : goal.overflow-mul-sum
+pub overflow_mul-sum : goal.overflow_mul-sum
 unfolding deadlines_by
-overflow-mul-sum c = omega (arith, due_size c.args.t c.row-item.result)
+overflow_mul-sum c = omega (arith, due_size c.args.t c.row-item.result)
 
-pub overflow-add-sum : goal.overflow-add-sum
+pub overflow_add-sum : goal.overflow_add-sum
 unfolding deadlines_by
-overflow-add-sum c =
+overflow_add-sum c =
     let t = c.args.t in
     omega (arith, sum_fits (due_work t) t (due_size t) c.args.rows.now c.requires.few c.loop-row.row-index c.loop-row.sum c.loop-row.invariant.1 c.loop-row-test.true c.row-item.result c.row-item.is)
 

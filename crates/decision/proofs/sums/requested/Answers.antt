@@ -10,13 +10,13 @@ use Rattle.decision.proofs.sums.requested.Goals as goal
 pub loop-row-init : goal.loop-row-init
 loop-row-init c = (omega arith, sym (total_none (released_work c.args.t)))
 
-pub overflow-mul-sum : goal.overflow-mul-sum
+pub overflow_mul-sum : goal.overflow_mul-sum
 unfolding ceiling releases_in
-overflow-mul-sum c = omega (arith, released_size c.args.t c.row-item.result)
+overflow_mul-sum c = omega (arith, released_size c.args.t c.row-item.result)
 
-pub overflow-add-sum : goal.overflow-add-sum
+pub overflow_add-sum : goal.overflow_add-sum
 unfolding ceiling releases_in
-overflow-add-sum c =
+overflow_add-sum c =
     let t = c.args.t in
     omega (arith, sum_fits (released_work t) t (released_size t) c.args.rows.now c.requires.few c.loop-row.row-index c.loop-row.sum c.loop-row.invariant.1 c.loop-row-test.true c.row-item.result c.row-item.is)
 

@@ -13,11 +13,11 @@ use Rattle.report.proofs.answer.response_lines.Goals as goal
 pub loop-i-init : goal.loop-i-init
 loop-i-init c = c.one-lines.ensures ∙ ap (λ n. triple 0 n 0 ∷ []) (ap length c.rows-rows.ensures.rows)
 
-pub returns-in-err-push : goal.returns-in-err-push
-returns-in-err-push c =
+pub returns-in_err-push : goal.returns-in_err-push
+returns-in_err-push c =
     let rs : List Row = rows_of c.args.table.now in
     let f : ℕ → Triple = response_line rs (responses_of c.args.responses.now) in
-    absurd (omega (arith, ap length c.loop-i.invariant, length-map-range_with_len f 0 c.loop-i.i, c.in-err-push.ensures.0, c.rows-rows.ensures.few, c.loop-i-test.true))
+    absurd (omega (arith, ap length c.loop-i.invariant, length-map-range_with_len f 0 c.loop-i.i, c.in_err-push.ensures.0, c.rows-rows.ensures.few, c.loop-i-test.true))
 
 pub loop-i-preserved : goal.loop-i-preserved
 loop-i-preserved c =
@@ -27,7 +27,7 @@ loop-i-preserved c =
     let time = ap (λ x. get_or x i 0) c.times-times.ensures.times in
     let row = get_or_default c.rows-rows.result.now i c.index-rows-i.result no_row c.loop-i-test.true ∙ ap (λ x. row_at x i) c.rows-rows.ensures.rows in
     let line = ap₂ (λ (x y : ℕ). triple (i + 1) x y) time (ap (λ r. r.deadline) row) in
-    c.in-ok-push.ensures.1 ∙ ap₂ (λ xs x. xs ++ x ∷ []) c.loop-i.invariant line ∙ ap (λ xs. triple 0 (length rs) 0 ∷ xs) (sym (map-range_with_len_more f 0 i i (omega arith)))
+    c.in_ok-push.ensures.1 ∙ ap₂ (λ xs x. xs ++ x ∷ []) c.loop-i.invariant line ∙ ap (λ xs. triple 0 (length rs) 0 ∷ xs) (sym (map-range_with_len_more f 0 i i (omega arith)))
 
 pub returns : goal.returns
 returns c =

@@ -8,9 +8,9 @@ use Rattle.support.proofs.recording.replay_by_deadline.Goals as goal
 pub returns : goal.returns
 returns c =
     let rs = rows_of c.args.table.now in
-    let reserved = c.in-ok-server.ensures.fresh in
-    let told = c.in-ok-replay.ensures in (
+    let reserved = c.in_ok-server.ensures.fresh in
+    let told = c.in_ok-replay.ensures in (
       reserved.0,
       told.replies ∙ ap (λ s. replies server_step by_deadline c.args.calls.now (fresh rs s)) reserved.1,
-      told.accepted-table-misses-no-job c.in-ok-test.field-0 c.in-ok-test.ensures,
+      told.accepted-table-misses-no-job c.in_ok-test.field-0 c.in_ok-test.ensures,
     )

@@ -5,11 +5,11 @@ use Rattle.run.proofs.Held.{length_front}
 use Rattle.run.proofs.Calls.{end_accepts, end_leaves, end_orderly, end_job, end_released}
 use Rattle.run.proofs.dispatcher.Dispatcher.end.Goals as goal
 
-pub overflow-sub-age : goal.overflow-sub-age
-overflow-sub-age c =
+pub overflow_sub-age : goal.overflow_sub-age
+overflow_sub-age c =
     let d = c.args.self.now in
     let st = jobs_state d in
-    end_released st c.args.row c.in-ok-place.place d.rows.count (length_front d.rows.count d.rows.states d.whole d.few) c.in-ok-place.ensures
+    end_released st c.args.row c.in_ok-place.place d.rows.count (length_front d.rows.count d.rows.states d.whole d.few) c.in_ok-place.ensures
     c.at-state.result c.at-state.ensures c.in-Some.active c.in-Some.is (orderly_out d.clock 1 st.rows d.orderly)
 
 pub invariant-of-self : goal.invariant-of-self
@@ -23,7 +23,7 @@ invariant-of-self c =
         (
           omega arith,
           (
-            ∣ end_orderly st c.args.row c.in-ok-place.place d.rows.count long c.in-ok-place.ensures c.at-state.result c.at-state.ensures c.in-Some.active c.in-Some.is
+            ∣ end_orderly st c.args.row c.in_ok-place.place d.rows.count long c.in_ok-place.ensures c.at-state.result c.at-state.ensures c.in-Some.active c.in-Some.is
                 _ (held c.put.new.self) refl c.put.ensures.rows (orderly_out d.clock 1 st.rows d.orderly) ∣₁,
             (omega arith, tt),
           ),
@@ -36,8 +36,8 @@ returns c =
     let d = c.args.self.now in
     let st = jobs_state d in
     let long = length_front d.rows.count d.rows.states d.whole d.few in
-    let found = c.in-ok-place.ensures in
-    let k = c.in-ok-place.place in
+    let found = c.in_ok-place.ensures in
+    let k = c.in_ok-place.place in
     let x = c.at-state.result in record {
       answer = end_accepts st c.args.row k d.rows.count long found x c.at-state.ensures c.in-Some.active c.in-Some.is;
       state = end_leaves st c.args.row k d.rows.count long found x c.at-state.ensures c.in-Some.active c.in-Some.is _ (held c.put.new.self) refl c.put.ensures.rows;

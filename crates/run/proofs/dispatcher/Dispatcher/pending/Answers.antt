@@ -14,17 +14,17 @@ use Rattle.run.proofs.dispatcher.Dispatcher.pending.Goals as goal
 single : (d : Dispatcher) → OneEach (jobs_of (held d.rows))
 single d = one_each d.clock (held d.rows) (orderly_out d.clock 1 (held d.rows) d.orderly)
 
-pub returns-in-err-needed : goal.returns-in-err-needed
-returns-in-err-needed c = record { answer = search rules; records = search rules; one_each = single c.args.self.now }
+pub returns-in_err-needed : goal.returns-in_err-needed
+returns-in_err-needed c = record { answer = search rules; records = search rules; one_each = single c.args.self.now }
 
 pub returns : goal.returns
 returns c =
     let jobs = jobs_of (held c.args.self.now.rows) in
     let list = c.args.list.now in
-    let n = c.in-ok-needed.needed in
-    let needed = room_found (length list) n (jobs_state c.args.self.now) c.in-ok-needed.ensures in
+    let n = c.in_ok-needed.needed in
+    let needed = room_found (length list) n (jobs_state c.args.self.now) c.in_ok-needed.ensures in
     record {
-      answer = c.in-ok-needed.ensures;
+      answer = c.in_ok-needed.ensures;
       records = (
         subst (IsPermutation jobs) (sym (ap (take n) c.write.ensures ∙ take_at jobs (drop n list) n needed)) (IsPermutation-refl jobs),
         ap (drop n) c.write.ensures ∙ drop_at jobs (drop n list) n needed,

@@ -16,7 +16,7 @@ invariant-of-self c =
         (
           omega arith,
           (
-            ∣ release_orderly st c.args.row c.in-ok-place.place d.rows.count long c.in-ok-place.ensures c.at-state.result c.released-released.result (held c.put.new.self)
+            ∣ release_orderly st c.args.row c.in_ok-place.place d.rows.count long c.in_ok-place.ensures c.at-state.result c.released-released.result (held c.put.new.self)
                 c.at-state.ensures c.released-released.ensures c.put.ensures.rows (orderly_out d.clock 1 st.rows d.orderly) ∣₁,
             (omega arith, tt),
           ),
@@ -29,8 +29,8 @@ returns c =
     let d = c.args.self.now in
     let st = jobs_state d in
     let long = length_front d.rows.count d.rows.states d.whole d.few in
-    let found = c.in-ok-place.ensures in
-    let k = c.in-ok-place.place in
+    let found = c.in_ok-place.ensures in
+    let k = c.in_ok-place.place in
     let x = c.at-state.result in
     let due : x.next ≤ d.clock = omega arith in record {
       answer = release_accepts st c.args.row k d.rows.count long found x c.at-state.ensures due;

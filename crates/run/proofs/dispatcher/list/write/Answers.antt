@@ -13,8 +13,8 @@ loop-i-init c =
       sym (ap (λ js. take c.args.needed list ++ (js ++ drop c.args.needed list)) none ∙ take-append-drop c.args.needed list),
     )
 
-pub overflow-sub-n : goal.overflow-sub-n
-overflow-sub-n c = some_left (c.loop-i.i - 1) c.loop-i.i c.loop-i.n c.args.rows.now c.index-rows-i.result (omega arith) (omega arith) c.in-Some.pending c.in-Some.is (c.loop-i.invariant.0 ∙ c.requires.needed)
+pub overflow_sub-n : goal.overflow_sub-n
+overflow_sub-n c = some_left (c.loop-i.i - 1) c.loop-i.i c.loop-i.n c.args.rows.now c.index-rows-i.result (omega arith) (omega arith) c.in-Some.pending c.in-Some.is (c.loop-i.invariant.0 ∙ c.requires.needed)
 
 pub bounds-list-n : goal.bounds-list-n
 bounds-list-n c =

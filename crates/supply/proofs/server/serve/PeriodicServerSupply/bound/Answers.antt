@@ -17,11 +17,11 @@ size s t = from_start_size s.budget s.period s.range.1 (served s t)
 pub returns-then-t-idle : goal.returns-then-t-idle
 returns-then-t-idle c = (omega arith, omega (arith, closed c.args.self.now c.args.t, size c.args.self.now c.args.t))
 
-pub overflow-mul-whole : goal.overflow-mul-whole
-overflow-mul-whole c = omega (arith, size c.args.self.now c.args.t)
+pub overflow_mul-whole : goal.overflow_mul-whole
+overflow_mul-whole c = omega (arith, size c.args.self.now c.args.t)
 
-pub overflow-add-result : goal.overflow-add-result
-overflow-add-result c = omega (arith, size c.args.self.now c.args.t)
+pub overflow_add-result : goal.overflow_add-result
+overflow_add-result c = omega (arith, size c.args.self.now c.args.t)
 
 pub returns-then-part-idle : goal.returns-then-part-idle
 returns-then-part-idle c = (omega arith, omega (arith, closed c.args.self.now c.args.t))
