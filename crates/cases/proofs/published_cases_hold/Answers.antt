@@ -7,8 +7,8 @@ returns c = record {
   two_rows = two_rows_hold;
   three_rows = three_rows_hold;
   short_deadline = short_deadline_holds;
-  small-budget = small_budget_holds;
-  full-processor = full_processor_holds;
-  over-full = over_full_holds;
+  small_budget = small_budget_holds;
+  full_processor = full_processor_holds;
+  over_full = over_full_holds;
   no_rows = no_rows_hold;
 }
