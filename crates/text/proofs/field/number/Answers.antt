@@ -13,11 +13,11 @@ returns-then-b-lt48 c =
     (elim c.then-b-lt48.branch [ then-b-lt48-via-then-b-lt48 w ↦ inl w.if-b-lt48.true | then-b-lt48-via-else-b-lt48+then-b-gt57 w ↦ inr w.if-b-gt57.true ])
     c.loop-b.invariant.1
 
-pub overflow-mul-n : goal.overflow-mul-n
-overflow-mul-n c = record { fits = omega (arith, pow_seven c.loop-b.b-index (omega arith)) }
+pub overflow_mul-n : goal.overflow_mul-n
+overflow_mul-n c = record { fits = omega (arith, pow_seven c.loop-b.b-index (omega arith)) }
 
-pub overflow-add-n : goal.overflow-add-n
-overflow-add-n c = record { fits = omega (arith, pow_seven c.loop-b.b-index (omega arith)) }
+pub overflow_add-n : goal.overflow_add-n
+overflow_add-n c = record { fits = omega (arith, pow_seven c.loop-b.b-index (omega arith)) }
 
 pub loop-b-preserved : goal.loop-b-preserved
 loop-b-preserved c =

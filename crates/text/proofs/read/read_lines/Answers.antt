@@ -35,21 +35,21 @@ loop-i-init c =
     (ap length none, ap (λ ts. behind ts (lines_from (length bs / 25) bs 0)) none ∙ lines_none (length bs / 25) bs)
 
 -- the fault of a line is the text's
-pub returns-in-err-triple : goal.returns-in-err-triple
-returns-in-err-triple c =
+pub returns-in_err-triple : goal.returns-in_err-triple
+returns-in_err-triple c =
     let bs = c.args.text.now in
     let i = c.loop-i.i in
-    let p = err_from_is_err_and c.from-residual.result c.from-residual.ensures.1 in
+    let p = err_from_is_err_and c.from_residual.result c.from_residual.ensures.1 in
     let span : 25 * i + 25 - 25 * i ≡ 25 = omega arith in
-    let read = c.in-err-triple.ensures ∙ ap (λ k. line_read (take k (drop (25 * i) bs)) (i + 1)) span in
-    let value : map_ok triples_of c.from-residual.result ≡ text_read bs =
+    let read = c.in_err-triple.ensures ∙ ap (λ k. line_read (take k (drop (25 * i) bs)) (i + 1)) span in
+    let value : map_ok triples_of c.from_residual.result ≡ text_read bs =
     ap (map_ok triples_of) (p.1 ∙ ap (λ f. Err f) p.2) ∙ line_fault (length bs / 25) i bs (triples_of c.loop-i.lines) _ c.loop-i-test.true read c.loop-i.invariant.1 ∙
     sym (text_read_whole bs (omega arith) c.if-text-ne0.false c.if-text-gt-LONGEST.false) in
-    record { value = value; spells = told_text bs _ (sym value); misspelt = text_misspelt triples_of bs c.from-residual.result value; small = view_printable triples_of c.from-residual.result _ value (text_printable bs) }
+    record { value = value; spells = told_text bs _ (sym value); misspelt = text_misspelt triples_of bs c.from_residual.result value; small = view_printable triples_of c.from_residual.result _ value (text_printable bs) }
 
 -- there is room for every line
-pub returns-in-err-push : goal.returns-in-err-push
-returns-in-err-push c = absurd (omega (arith, c.in-err-push.ensures.0, c.loop-i.invariant.0))
+pub returns-in_err-push : goal.returns-in_err-push
+returns-in_err-push c = absurd (omega (arith, c.in_err-push.ensures.0, c.loop-i.invariant.0))
 
 pub loop-i-preserved : goal.loop-i-preserved
 loop-i-preserved c =
@@ -57,10 +57,10 @@ loop-i-preserved c =
     let i = c.loop-i.i in
     let n = length bs / 25 in
     let done = triples_of c.loop-i.lines in
-    let t = c.in-ok-triple.triple in
+    let t = c.in_ok-triple.triple in
     let span : 25 * i + 25 - 25 * i ≡ 25 = omega arith in
-    let read = c.in-ok-triple.ensures ∙ ap (λ k. line_read (take k (drop (25 * i) bs)) (i + 1)) span in
-    let put : triples_of c.push.new.self ≡ done ++ t ∷ [] = c.in-ok-push.ensures.1 in (
+    let read = c.in_ok-triple.ensures ∙ ap (λ k. line_read (take k (drop (25 * i) bs)) (i + 1)) span in
+    let put : triples_of c.push.new.self ≡ done ++ t ∷ [] = c.in_ok-push.ensures.1 in (
       ap length put ∙ length_push done t ∙ ap (λ k. k + 1) c.loop-i.invariant.0,
       ap (λ ts. behind ts (lines_from n bs (i + 1))) put ∙ line_more n i bs done t c.loop-i-test.true read c.loop-i.invariant.1,
     )

@@ -21,18 +21,18 @@ returns-then-triples-eq0 c =
     sym (cond-false _ _ _ (le-ltb c.args.room 425 c.if-room-lt-LONGEST.false) ∙ cond-false _ _ _ not)
 
 -- the fault of a triple is that of all
-pub returns-in-err-check-triple : goal.returns-in-err-check-triple
-returns-in-err-check-triple c =
+pub returns-in_err-check_triple : goal.returns-in_err-check_triple
+returns-in_err-check_triple c =
     let ts = c.args.triples.now in
-    let p = err_from_is_err_and c.from-residual.result c.from-residual.ensures.1 in
-    p.1 ∙ ap (λ f. Err f) p.2 ∙ triple_fault ts c.loop-i.i _ _ c.loop-i-test.true c.in-err-check-triple.ensures c.loop-i.invariant ∙
-    sym (checked_numbers ts c.args.room c.if-room-lt-LONGEST.false (omega arith) c.if-triples-gt-MOST-LINES.false)
+    let p = err_from_is_err_and c.from_residual.result c.from_residual.ensures.1 in
+    p.1 ∙ ap (λ f. Err f) p.2 ∙ triple_fault ts c.loop-i.i _ _ c.loop-i-test.true c.in_err-check_triple.ensures c.loop-i.invariant ∙
+    sym (checked_numbers ts c.args.room c.if-room-lt-LONGEST.false (omega arith) c.if-triples-gt-MOST_LINES.false)
 
 pub loop-i-preserved : goal.loop-i-preserved
-loop-i-preserved c = triple_more c.args.triples.now c.loop-i.i _ c.loop-i-test.true c.in-ok-check-triple.ensures c.loop-i.invariant
+loop-i-preserved c = triple_more c.args.triples.now c.loop-i.i _ c.loop-i-test.true c.in_ok-check_triple.ensures c.loop-i.invariant
 
 pub returns : goal.returns
 returns c =
     let ts = c.args.triples.now in
     sym (at_drop_all (λ us. triples_checked us (c.loop-i.i + 1)) ts c.loop-i.i c.loop-i-test.false) ∙ c.loop-i.invariant ∙
-    sym (checked_numbers ts c.args.room c.if-room-lt-LONGEST.false (omega arith) c.if-triples-gt-MOST-LINES.false)
+    sym (checked_numbers ts c.args.room c.if-room-lt-LONGEST.false (omega arith) c.if-triples-gt-MOST_LINES.false)

@@ -6,8 +6,8 @@ use Rattle.text.specs.Texts.{Fitting, text_of}
 use Rattle.text.proofs.Puts.{line_more_put}
 use Rattle.text.proofs.write.put.Goals as goal
 
-pub write-line-requires : goal.write-line-requires
-write-line-requires c =
+pub write_line-requires : goal.write_line-requires
+write_line-requires c =
     let i = c.loop-i.i in
     let out = c.loop-i.out in
     let span : 25 * i + 25 - 25 * i ≡ 25 = omega arith in
@@ -16,7 +16,7 @@ write-line-requires c =
 
 pub loop-i-preserved : goal.loop-i-preserved
 loop-i-preserved c =
-    line_more_put c.args.triples.now _ c.loop-i.i _ c.args.out.now c.loop-i.out c.write-line.new.out c.loop-i-test.true c.requires.fits (omega arith) c.write-line.ensures
+    line_more_put c.args.triples.now _ c.loop-i.i _ c.args.out.now c.loop-i.out c.write_line.new.out c.loop-i-test.true c.requires.fits (omega arith) c.write_line.ensures
     c.loop-i.invariant
 
 pub returns : goal.returns

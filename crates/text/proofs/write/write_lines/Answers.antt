@@ -12,24 +12,24 @@ use Rattle.text.proofs.Steps.{no_answer}
 use Rattle.text.proofs.Unfit.{unfit_lines}
 use Rattle.text.proofs.write.write_lines.Goals as goal
 
-pub returns-in-err-check-lines : goal.returns-in-err-check-lines
-returns-in-err-check-lines c =
+pub returns-in_err-check_lines : goal.returns-in_err-check_lines
+returns-in_err-check_lines c =
     let ts = c.args.triples.now in
     let room = length c.args.out.now in
-    let p = err_from_is_err_and c.from-residual.result c.from-residual.ensures.1 in
-    let value : Err c.in-err-check-lines.field-0.0 ≡ lines_written ts room =
-    ap (λ (r : Result Unit Fault). and_then r (λ _. Ok (25 * length ts))) c.in-err-check-lines.ensures in
-    rw (p.1, p.2) (record { value = value; accepts = λ w. no_answer tt _ (c.in-err-check-lines.ensures ∙ lines_pass ts room w); bytes = refl; unfit = unfit_lines ts room _ value; back = tt; small = subst PrintableRefusal (sym value) (lines_written_printable ts room) })
+    let p = err_from_is_err_and c.from_residual.result c.from_residual.ensures.1 in
+    let value : Err c.in_err-check_lines.field-0.0 ≡ lines_written ts room =
+    ap (λ (r : Result Unit Fault). and_then r (λ _. Ok (25 * length ts))) c.in_err-check_lines.ensures in
+    rw (p.1, p.2) (record { value = value; accepts = λ w. no_answer tt _ (c.in_err-check_lines.ensures ∙ lines_pass ts room w); bytes = refl; unfit = unfit_lines ts room _ value; back = tt; small = subst PrintableRefusal (sym value) (lines_written_printable ts room) })
 
 pub put-requires : goal.put-requires
 put-requires c =
-    let w = writable c.args.triples.now (length c.args.out.now) (sym c.in-ok-check-lines.ensures) in
+    let w = writable c.args.triples.now (length c.args.out.now) (sym c.in_ok-check_lines.ensures) in
     record { fits = w.fits; room = omega (arith, w.roomy, w.few) }
 
 pub returns : goal.returns
 returns c =
     let ts = c.args.triples.now in
-    let checked = sym c.in-ok-check-lines.ensures in
+    let checked = sym c.in_ok-check_lines.ensures in
     let w = writable ts (length c.args.out.now) checked in
     record {
       value = ap (λ n. Ok n) c.put.ensures.length ∙ ap (λ (r : Result Unit Fault). and_then r (λ _. Ok (25 * length ts))) (sym checked);

@@ -12,24 +12,24 @@ use Rattle.text.proofs.Steps.{no_answer}
 use Rattle.text.proofs.Unfit.{unfit_table}
 use Rattle.text.proofs.write.write_table.Goals as goal
 
-pub returns-in-err-check-table : goal.returns-in-err-check-table
-returns-in-err-check-table c =
+pub returns-in_err-check_table : goal.returns-in_err-check_table
+returns-in_err-check_table c =
     let ts = c.args.triples.now in
     let room = length c.args.out.now in
-    let p = err_from_is_err_and c.from-residual.result c.from-residual.ensures.1 in
-    let value : Err c.in-err-check-table.field-0.0 ≡ table_written ts room =
-    ap (λ (r : Result Unit Fault). and_then r (λ _. Ok (25 * length ts))) c.in-err-check-table.ensures in
-    rw (p.1, p.2) (record { value = value; accepts = λ w. no_answer tt _ (c.in-err-check-table.ensures ∙ table_pass ts room w); bytes = refl; unfit = unfit_table ts room _ value; back = tt; small = subst PrintableRefusal (sym value) (table_written_printable ts room) })
+    let p = err_from_is_err_and c.from_residual.result c.from_residual.ensures.1 in
+    let value : Err c.in_err-check_table.field-0.0 ≡ table_written ts room =
+    ap (λ (r : Result Unit Fault). and_then r (λ _. Ok (25 * length ts))) c.in_err-check_table.ensures in
+    rw (p.1, p.2) (record { value = value; accepts = λ w. no_answer tt _ (c.in_err-check_table.ensures ∙ table_pass ts room w); bytes = refl; unfit = unfit_table ts room _ value; back = tt; small = subst PrintableRefusal (sym value) (table_written_printable ts room) })
 
 pub put-requires : goal.put-requires
 put-requires c =
-    let w = (table_writable c.args.triples.now (length c.args.out.now) (sym c.in-ok-check-table.ensures)).0 in
+    let w = (table_writable c.args.triples.now (length c.args.out.now) (sym c.in_ok-check_table.ensures)).0 in
     record { fits = w.fits; room = omega (arith, w.roomy, w.few) }
 
 pub returns : goal.returns
 returns c =
     let ts = c.args.triples.now in
-    let checked = sym c.in-ok-check-table.ensures in
+    let checked = sym c.in_ok-check_table.ensures in
     let w = table_writable ts (length c.args.out.now) checked in
     record {
       value = ap (λ n. Ok n) c.put.ensures.length ∙ ap (λ (r : Result Unit Fault). and_then r (λ _. Ok (25 * length ts))) (sym checked);
