@@ -11,7 +11,7 @@ returns c =
     let lines : triples_of c.match-judged.lines ≡ report_lines (map_ok triples_of c.judged.result) =
     elim c.match-judged.branch [
       | in-Ok w ↦ ap triples_of w.lines-is ∙ sym (ap (λ r. report_lines (map_ok triples_of r)) w.in-Ok.is)
-      | in-Err w ↦ ap triples_of w.lines-is ∙ w.fault-lines-lines.ensures ∙ sym (ap (λ r. report_lines (map_ok triples_of r)) w.in-Err.is)
+      | in-Err w ↦ ap triples_of w.lines-is ∙ w.fault_lines-lines.ensures ∙ sym (ap (λ r. report_lines (map_ok triples_of r)) w.in-Err.is)
     ] in
-    reported c.args.bytes.now c.args.out.now c.write-lines.new.out c.write-lines.result c.triples.result.now (map_ok triples_of c.judged.result) c.judged.ensures
-    (c.triples.ensures.held ∙ lines) c.write-lines.ensures.value c.write-lines.ensures.bytes
+    reported c.args.bytes.now c.args.out.now c.write_lines.new.out c.write_lines.result c.triples.result.now (map_ok triples_of c.judged.result) c.judged.ensures
+    (c.triples.ensures.held ∙ lines) c.write_lines.ensures.value c.write_lines.ensures.bytes

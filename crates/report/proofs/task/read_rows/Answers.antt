@@ -14,7 +14,7 @@ returns-in_err-add c =
     let ts = c.args.rows.now in
     let i : ℕ = c.loop-row.row-index in
     let n = front_count (rows_of c.loop-row.table) ts i c.loop-row.invariant.1 c.loop-row.invariant.0 in
-    let p = err_from_is_err_and c.from-residual.result c.from-residual.ensures.1 in
+    let p = err_from_is_err_and c.from_residual.result c.from_residual.ensures.1 in
     let broken : FirstBroken ts c.in_err-add.field-0.0 =
     ⊎_elim
     (λ full. absurd (omega (arith, full.0, n, c.loop-row-test.true, c.requires)))
