@@ -2,7 +2,7 @@
 # Checks the C side of the library: the loader prints what the program verdict prints, and the library
 # agrees with the reference on many texts.
 #
-#     rt check && rt staticlib report && loader/test.sh
+#     bash tools/build.sh && bash loader/test.sh
 #
 # Prints a line for each check and then `N passed, M failed`; status 1 where a check failed.
 set -u

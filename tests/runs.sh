@@ -1,7 +1,7 @@
 #!/usr/bin/env bash
 # Checks runs of the library against a plain simulator in C, on many lists of calls.
 #
-#     rt staticlib probe && bash tests/runs.sh
+#     bash tools/build.sh && bash tests/runs.sh
 #
 # Prints a line for each check and then `N passed, M failed`; status 1 where a check failed.
 set -u
