@@ -1,6 +1,6 @@
 -- The checks before writing are passed by just what can be written. Assumes nothing.
 use Rattle.std.proofs.Common.{◌≡◌, ℕ, suc, ◌^◌, ◌≤◌, Bool, true, false, cond, ltb, leb, List, [], ◌∷◌, length, Ok, Err, Result, refl, ◌∙◌}
-use Rattle.std.specs.List.{AllByRecursion as All}
+use Rattle.std.specs.List.{AllByRecursion}
 use Rattle.std.proofs.lemmas.Bool.{and_from, and_parts, cond-false, cond-true, le-leb, le-ltb, leb-true, lt-ltb, ltb-false, ltb-true}
 use Rattle.fault.specs.declared.Fault.{Fault}
 use Rattle.text.specs.declared.triple.Triple.{Triple}
@@ -20,7 +20,7 @@ triple_fits t i h =
     let two = went_on (number_checked t.second i 2) _ tt one.2 in
     (number_fits t.first i 1 one.1, number_fits t.second i 2 two.1, number_fits t.third i 3 two.2)
 
-triples_fit : (ts : List Triple) (i : ℕ) → triples_checked ts i ≡ Ok tt → All Fitting ts
+triples_fit : (ts : List Triple) (i : ℕ) → triples_checked ts i ≡ Ok tt → AllByRecursion Fitting ts
 triples_fit [] i h = tt
 triples_fit (t ∷ ts) i h = let here = went_on (triple_checked t i) _ tt h in (triple_fits t i here.1, triples_fit ts (suc i) here.2)
 
@@ -57,7 +57,7 @@ checked_numbers ts room roomy some few =
 number_passes : (n i j : ℕ) → Fits n → number_checked n i j ≡ Ok tt
 number_passes n i j fits = cond-true _ _ _ (lt-ltb n (10 ^ 8) fits)
 
-triples_pass : (ts : List Triple) (i : ℕ) → All Fitting ts → triples_checked ts i ≡ Ok tt
+triples_pass : (ts : List Triple) (i : ℕ) → AllByRecursion Fitting ts → triples_checked ts i ≡ Ok tt
 triples_pass [] i fits = refl
 triples_pass (t ∷ ts) i fits =
     let here = fits.0 in

@@ -1,6 +1,6 @@
 -- A refused line is the first that is misspelt, and it is so in its first such field. Assumes nothing.
 use Rattle.std.proofs.Common.{◌≡◌, ℕ, zero, suc, ◌+◌, ◌*◌, ◌/◌, ◌<◌, ◌≤◌, true, false, eqb, ◌⊎◌, List, [], ◌∷◌, ◌++◌, length, get_or, take, drop, Some, None, Ok, Err, Result, sym, refl, ap, ◌∙◌, subst, inl, inr, ⊎_elim, arith}
-use Rattle.std.specs.List.{AllByRecursion as All}
+use Rattle.std.specs.List.{AllByRecursion}
 use Rattle.std.proofs.lemmas.List.{drop-drop, drop-take, length-drop, length-take-le, take-append-drop, take-take}
 use Rattle.std.proofs.lemmas.Bool.{cases_Bool, cases_eq, cond-false, cond-true, eqb-false, eqb-true}
 use Rattle.fault.specs.declared.Fault.{Fault}
@@ -10,12 +10,12 @@ use Rattle.fault.specs.Steps.{map_ok}
 use Rattle.text.specs.declared.triple.Triple.{Triple}
 use Rattle.text.specs.Fields.{Reads, field_read}
 use Rattle.text.specs.Texts.{Fitting, line_of, text_of}
-use Rattle.text.specs.Reading.{field_at, field_bytes, line_read, lines_read, order_checked, table_read, text_read, whole_lines}
+use Rattle.text.specs.Reading.{field_at, field_bytes, line_read, lines_read, text_read, whole_lines}
 use Rattle.text.specs.Places.{FirstMisspelt, MisspeltLine, MisspeltRefusal}
 use Rattle.text.proofs.Fields.{reads_field}
 use Rattle.text.proofs.Parts.{line_spells, spelt}
 use Rattle.text.proofs.Spellings.{whole_parts}
-use Rattle.text.proofs.Steps.{failed, no_answer, stopped, was_none, was_some}
+use Rattle.text.proofs.Steps.{no_answer, stopped, was_none, was_some}
 
 -- the field j of a line is a number's text
 abbrev Number : List ℕ → ℕ → Type 0
@@ -58,7 +58,7 @@ line_misspelt bs i f h =
 -- the first misspelt line of a text that begins with the line i
 record Found (i : ℕ) (bs : List ℕ) (f : Fault) : Type 0 where
   before : List Triple
-  fits : All Fitting before
+  fits : AllByRecursion Fitting before
   text : take (25 * length before) bs ≡ text_of before
   line : f.place.0 ≡ i + length before
   wrong : MisspeltLine (take 25 (drop (25 * length before) bs)) f
@@ -96,11 +96,11 @@ abbrev ForLine : Fault → Type 0
 ForLine f = (f.number ≡ 12) ⊎ (f.number ≡ 13)
 
 other : (d f : Fault) → d ≡ f → (d.number ≡ 12 → ⊥) → (d.number ≡ 13 → ⊥) → ForLine f → ⊥
-other d f same no-feed no_field = let number = ap (λ (e : Fault). e.number) same in ⊎_elim (λ e. no-feed (number ∙ e)) (λ e. no_field (number ∙ e))
+other d f same no_feed no_field = let number = ap (λ (e : Fault). e.number) same in ⊎_elim (λ e. no_feed (number ∙ e)) (λ e. no_field (number ∙ e))
 
 text_first : (bs : List ℕ) (f : Fault) → text_read bs ≡ Err f → ForLine f → FirstMisspelt bs f
 unfolding text_read
-text_first bs f h for-line =
+text_first bs f h for_line =
     ⊎_elim
     (λ (test : whole_lines (length bs) ≡ true).
     let p = whole_parts (length bs) test in
@@ -109,23 +109,10 @@ text_first bs f h for-line =
     (λ (test : whole_lines (length bs) ≡ false).
     let e : ◌≡◌ {A = Result (List Triple) Fault} (Err (fault_of Text 11 0 0)) (Err f) = sym (cond-false _ _ _ test) ∙ h in
     let same : fault_of Text 11 0 0 ≡ f = cc in
-    absurd (other (fault_of Text 11 0 0) f same (λ e. omega arith) (λ e. omega arith) for-line))
+    absurd (other (fault_of Text 11 0 0) f same (λ e. omega arith) (λ e. omega arith) for_line))
     (cases_Bool (whole_lines (length bs)))
-
-table_first : (bs : List ℕ) (f : Fault) → table_read bs ≡ Err f → ForLine f → FirstMisspelt bs f
-table_first bs f h for-line =
-    ⊎_elim (λ text. text_first bs f text for-line)
-    (λ past. ⊎_elim
-    (λ order. absurd (other (fault_of Text 14 1 1) f (failed _ tt (fault_of Text 14 1 1) f order).1 (λ e. omega arith) (λ e. omega arith) for-line))
-    (λ all. absurd (no_answer _ f (sym all.2)))
-    (stopped (order_checked past.0) _ f past.2))
-    (stopped (text_read bs) _ f h)
 
 -- however the triples are held
 pub text_misspelt : {X : Type 0} (held : X → List Triple) (bs : List ℕ) (r : Result X Fault) → map_ok held r ≡ text_read bs → MisspeltRefusal bs r
 text_misspelt held bs (Ok x) value = tt
 text_misspelt held bs (Err f) value = text_first bs f (sym value)
-
-pub table_misspelt : {X : Type 0} (held : X → List Triple) (bs : List ℕ) (r : Result X Fault) → map_ok held r ≡ table_read bs → MisspeltRefusal bs r
-table_misspelt held bs (Ok x) value = tt
-table_misspelt held bs (Err f) value = table_first bs f (sym value)

@@ -1,6 +1,6 @@
 -- A text is read as just the triples that it spells. Assumes nothing.
 use Rattle.std.proofs.Common.{◌≡◌, ℕ, zero, suc, ◌*◌, ◌/◌, ◌%◌, ◌<◌, ◌≤◌, true, ◌&&◌, eqb, ltb, leb, List, [], ◌∷◌, ◌++◌, length, take, drop, Ok, Err, Result, sym, refl, ap, ◌∙◌, subst, arith}
-use Rattle.std.specs.List.{AllByRecursion as All}
+use Rattle.std.specs.List.{AllByRecursion}
 use Rattle.std.proofs.lemmas.List.{drop_at, length-append, length-drop, length-take-le, nil_from_length, take-append-drop, take_at}
 use Rattle.std.proofs.lemmas.Bool.{and_from, and_parts, cond-true, eq-eqb, eqb-true, le-leb, leb-true, lt-ltb, ltb-true}
 use Rattle.fault.specs.declared.Fault.{Fault}
@@ -12,12 +12,12 @@ use Rattle.text.proofs.Orders.{order_passed, order_passes}
 use Rattle.text.proofs.Parts.{length_line, line_read_of, line_spells}
 use Rattle.text.proofs.Steps.{no_answer, passed, went_on}
 
-pub length_text : (ts : List Triple) → All Fitting ts → length (text_of ts) ≡ 25 * length ts
+pub length_text : (ts : List Triple) → AllByRecursion Fitting ts → length (text_of ts) ≡ 25 * length ts
 length_text [] fits = refl
 length_text (t ∷ ts) fits = length-append (line_of t) (text_of ts) ∙ omega (arith, length_line t fits.0, length_text ts fits.1)
 
 -- lines, one after another, are read as the triples that they were made of
-lines_read_of : (ts : List Triple) (i : ℕ) → All Fitting ts → lines_read (length ts) (text_of ts) i ≡ Ok ts
+lines_read_of : (ts : List Triple) (i : ℕ) → AllByRecursion Fitting ts → lines_read (length ts) (text_of ts) i ≡ Ok ts
 lines_read_of [] i fits = refl
 lines_read_of (t ∷ ts) i fits =
     let all : length (line_of t) ≡ 25 = length_line t fits.0 in
@@ -30,7 +30,7 @@ lines_read_of (t ∷ ts) i fits =
 record Lined (k : ℕ) (bs : List ℕ) (ts : List Triple) : Type 0 where
   text : text_of ts ≡ bs
   count : length ts ≡ k
-  fits : All Fitting ts
+  fits : AllByRecursion Fitting ts
 
 lines_spell : (k : ℕ) (bs : List ℕ) (i : ℕ) (ts : List Triple) → length bs ≡ 25 * k → lines_read k bs i ≡ Ok ts → Lined k bs ts
 lines_spell zero bs i ts all read =
@@ -62,7 +62,7 @@ text_read_whole bs some even short =
     cond-true _ _ _ (and_from _ _ (lt-ltb 0 (length bs) some) (and_from _ _ (eq-eqb _ 0 even) (le-leb (length bs) 425 short)))
 
 -- the text of triples is read as the triples
-pub text_read_of : (ts : List Triple) → 1 ≤ length ts → length ts ≤ 17 → All Fitting ts → text_read (text_of ts) ≡ Ok ts
+pub text_read_of : (ts : List Triple) → 1 ≤ length ts → length ts ≤ 17 → AllByRecursion Fitting ts → text_read (text_of ts) ≡ Ok ts
 text_read_of ts some few fits =
     let all : length (text_of ts) ≡ 25 * length ts = length_text ts fits in
     let count : length (text_of ts) / 25 ≡ length ts = omega arith in
@@ -84,7 +84,7 @@ told_text bs (Err f) read =
     λ ts spells. no_answer ts f (sym read ∙ ap text_read (sym spells.text) ∙ text_read_of ts spells.some spells.few spells.fits)
 
 -- the text of triples that begin with an order is read as a table
-pub table_read_of : (ts : List Triple) → 1 ≤ length ts → length ts ≤ 17 → All Fitting ts → TableOrder (order_of ts) → table_read (text_of ts) ≡ Ok ts
+pub table_read_of : (ts : List Triple) → 1 ≤ length ts → length ts ≤ 17 → AllByRecursion Fitting ts → TableOrder (order_of ts) → table_read (text_of ts) ≡ Ok ts
 table_read_of ts some few fits order = rw (text_read_of ts some few fits, order_passes ts order)
 
 -- so is no other text

@@ -1,6 +1,6 @@
 -- A refused number is the first that does not fit. Assumes nothing.
 use Rattle.std.proofs.Common.{◌≡◌, ℕ, suc, ◌+◌, ◌*◌, ◌/◌, ◌%◌, ◌^◌, ◌≤◌, Bool, true, false, cond, ltb, ◌⊎◌, List, [], ◌∷◌, length, get_or, take, Err, Result, sym, ap, ◌∙◌, inl, inr, ⊎_elim, arith}
-use Rattle.std.specs.List.{AllByRecursion as All}
+use Rattle.std.specs.List.{AllByRecursion}
 use Rattle.std.proofs.lemmas.Bool.{ltb-false}
 use Rattle.fault.specs.declared.Fault.{Fault}
 use Rattle.fault.specs.declared.Layer.TheVariants.{Text}
@@ -17,7 +17,7 @@ record Found (ns : List ℕ) (i : ℕ) (f : Fault) : Type 0 where
   at : ℕ
   place : f.place ≡ (i + at / 3, 1 + at % 3)
   large : 10 ^ 8 ≤ get_or ns at 0
-  before : All Fits (take at ns)
+  before : AllByRecursion Fits (take at ns)
 
 refused : (n i j : ℕ) (f : Fault) → number_checked n i j ≡ Err f → (10 ^ 8 ≤ n) × (f.place ≡ (i, j))
 refused n i j f h =
@@ -29,14 +29,14 @@ found [] i f h = absurd (no_answer tt f (sym h))
 found (t ∷ ts) i f h =
     let here : i ≡ i + 0 = omega arith in
     ⊎_elim
-    (λ (in-it : triple_checked t i ≡ Err f). ⊎_elim
+    (λ (in_it : triple_checked t i ≡ Err f). ⊎_elim
     (λ one. let p = refused t.first i 1 f one in record { at = 0; place = p.1 ∙ ap (λ k. (k, 1)) here; large = p.0; before = tt })
     (λ past. let one = number_fits t.first i 1 past.1 in ⊎_elim
     (λ two. let p = refused t.second i 2 f two in record { at = 1; place = p.1 ∙ ap (λ k. (k, 2)) here; large = p.0; before = (one, tt) })
     (λ more. let p = refused t.third i 3 f more.2 in
     record { at = 2; place = p.1 ∙ ap (λ k. (k, 3)) here; large = p.0; before = (one, (number_fits t.second i 2 more.1, tt)) })
     (stopped (number_checked t.second i 2) _ f past.2))
-    (stopped (number_checked t.first i 1) _ f in-it))
+    (stopped (number_checked t.first i 1) _ f in_it))
     (λ past.
     let fits = triple_fits t i past.1 in
     let rest = found ts (suc i) f past.2 in
@@ -53,7 +53,7 @@ found (t ∷ ts) i f h =
 
 -- a refusal for another reason has another number
 other : (d f : Fault) → ◌≡◌ {A = Result Unit Fault} (Err d) (Err f) → (d.number ≡ 13 → ⊥) → f.number ≡ 13 → ⊥
-other d f h no-unfit unfit = let same : d ≡ f = cc in no-unfit (ap (λ (e : Fault). e.number) same ∙ unfit)
+other d f h no_unfit unfit = let same : d ≡ f = cc in no_unfit (ap (λ (e : Fault). e.number) same ∙ unfit)
 
 either : (b : Bool) (r s : Result Unit Fault) (f : Fault) → cond b r s ≡ Err f → (r ≡ Err f) ⊎ (s ≡ Err f)
 either true r s f h = inl h

@@ -1,6 +1,6 @@
 -- The place in a refusal is that of the first thing that is wrong. Assumes nothing.
 use Rattle.std.specs.Prelude.{◌≡◌, ℕ, ◌+◌, ◌*◌, ◌/◌, ◌%◌, ◌^◌, ◌<◌, ◌≤◌, ◌⊎◌, List, [], ◌∷◌, length, take, drop, Some, None, Ok, Err, Result, ◌≢◌, slice_index}
-use Rattle.std.specs.List.{AllByRecursion as All}
+use Rattle.std.specs.List.{AllByRecursion}
 use Rattle.fault.specs.declared.Fault.{Fault}
 use Rattle.text.specs.declared.triple.Triple.{Triple}
 use Rattle.text.specs.Fields.{Fits, Reads}
@@ -16,7 +16,7 @@ MisspeltLine bs f =
 -- the lines before the fault's are the text of triples, and the fault's line is as it says
 pub record FirstMisspelt (bs : List ℕ) (f : Fault) : Type 0 where
   pub before : List Triple
-  pub fits : All Fitting before
+  pub fits : AllByRecursion Fitting before
   pub text : take (25 * length before) bs ≡ text_of before
   pub line : f.place.0 ≡ 1 + length before
   pub wrong : MisspeltLine (take 25 (drop (25 * length before) bs)) f
@@ -36,7 +36,7 @@ pub record FirstUnfit (ts : List Triple) (f : Fault) : Type 0 where
   pub at : ℕ
   pub place : f.place ≡ (1 + at / 3, 1 + at % 3)
   pub large : 10 ^ 8 ≤ slice_index (numbers_of ts) at
-  pub before : All Fits (take at (numbers_of ts))
+  pub before : AllByRecursion Fits (take at (numbers_of ts))
 
 -- a refusal with the number 13 is for that number
 abbrev pub UnfitRefusal : List Triple → Result ℕ Fault → Type 0

@@ -1,6 +1,6 @@
 -- The text of triples: a line for each, three fields and a line feed. Assumes nothing.
 use Rattle.std.specs.Prelude.{◌≡◌, ℕ, ◌≤◌, ◌⊎◌, List, [], ◌∷◌, ◌++◌, length}
-use Rattle.std.specs.List.{flat_map, AllByRecursion as All}
+use Rattle.std.specs.List.{flat_map, AllByRecursion}
 use Rattle.text.specs.declared.triple.Triple.{Triple}
 use Rattle.text.specs.Fields.{Fits, field_of}
 
@@ -21,7 +21,7 @@ pub record Spells (ts : List Triple) (bs : List ℕ) : Type 0 where
   pub text : text_of ts ≡ bs
   pub some : 1 ≤ length ts
   pub few : length ts ≤ 17
-  pub fits : All Fitting ts
+  pub fits : AllByRecursion Fitting ts
 
 -- the first number of all, which in a table is its order; 0 where there is none
 abbrev pub order_of : List Triple → ℕ

@@ -1,6 +1,6 @@
 -- What writing triples answers, and which bytes it leaves. Assumes nothing.
 use Rattle.std.specs.Prelude.{◌≡◌, ℕ, suc, ◌*◌, ◌^◌, ◌≤◌, Bool, cond, ◌&&◌, List, [], ◌∷◌, ◌++◌, length, drop, Ok, Err, Result, nat_le, nat_lt}
-use Rattle.std.specs.List.{AllByRecursion as All}
+use Rattle.std.specs.List.{AllByRecursion}
 use Rattle.fault.specs.declared.Fault.{Fault}
 use Rattle.fault.specs.declared.Layer.TheVariants.{Text}
 use Rattle.fault.specs.Layers.{fault_of}
@@ -49,7 +49,7 @@ pub record Writable (ts : List Triple) (room : ℕ) : Type 0 where
   pub roomy : 425 ≤ room
   pub some : 1 ≤ length ts
   pub few : length ts ≤ 17
-  pub fits : All Fitting ts
+  pub fits : AllByRecursion Fitting ts
 
 -- and of a table: the first number is an order
 abbrev pub WritableTable : List Triple → ℕ → Type 0

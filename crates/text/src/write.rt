@@ -1,6 +1,6 @@
 // Writing: triples as a text of 1 to 17 lines, and as a table's text.
 ghost use Rattle.std.specs.Prelude.{◌≡◌, ◌*◌, ◌≤◌, ◌++◌, length, drop, Ok, OnOk};
-ghost use Rattle.std.specs.List.{AllByRecursion as All};
+ghost use Rattle.std.specs.List.{AllByRecursion};
 ghost use Rattle.text.specs.Texts.{Fitting, text_of};
 ghost use Rattle.text.specs.Reading.{PrintableRefusal, text_read, table_read};
 ghost use Rattle.text.specs.Places.{UnfitRefusal};
@@ -70,7 +70,7 @@ fn check_table(triples: &[Triple], room: usize) -> Result<(), Fault>
 
 // Puts the text of the triples over the first bytes of `out`, and answers its length.
 fn put(triples: &[Triple], out: &mut [u8]) -> usize
-    requires fits { All Fitting triples.now }
+    requires fits { AllByRecursion Fitting triples.now }
     requires room { 25 * length triples.now ≤ length out.old }
     ensures length { result ≡ 25 * length triples.now }
     ensures bytes { out.new ≡ text_of triples.now ++ drop result out.old }
