@@ -1,6 +1,6 @@
 -- Writing what is said on a text. Assumes nothing.
 use Rattle.std.proofs.Common.{◌≡◌, ℕ, ◌*◌, ◌<◌, ◌≤◌, List, ◌++◌, length, drop, Ok, Err, Result, sym, refl, ap, ◌∙◌, subst, ⊎_elim, arith}
-use Rattle.std.specs.List.{AllByRecursion as All}
+use Rattle.std.specs.List.{AllByRecursion}
 use Rattle.std.proofs.lemmas.Bool.{cases_lt, cond-true, lt-ltb}
 use Rattle.fault.specs.declared.Fault.{Fault}
 use Rattle.fault.specs.declared.Layer.TheVariants.{Text}
@@ -28,7 +28,7 @@ reported bs before after r ts said judged is written leaves =
     (λ (room : 425 ≤ length before).
     let can = judged_reportable bs said judged in
     let n : length ts ≡ length (report_lines said) = ap length is in
-    let writable : Writable ts (length before) = record { roomy = room; some = omega (arith, can.some); few = omega (arith, can.few); fits = subst (All Fitting) (sym is) can.fits } in
+    let writable : Writable ts (length before) = record { roomy = room; some = omega (arith, can.some); few = omega (arith, can.few); fits = subst (AllByRecursion Fitting) (sym is) can.fits } in
     let checked : lines_checked ts (length before) ≡ Ok tt = lines_pass ts (length before) writable in
     let accepted : r ≡ Ok (25 * length ts) = written ∙ ap (λ (x : Result Unit Fault). and_then x (λ _. Ok (25 * length ts))) checked in
     let left = subst (λ x. Leaves x ts before after) accepted leaves in
