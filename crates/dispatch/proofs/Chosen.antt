@@ -1,7 +1,7 @@
 -- The job that a granted tick runs: it is pending in its row, and by the laws of an order it goes before every other
 -- pending job. Assumes nothing.
 use Rattle.std.proofs.Common.{◌≡◌, ℕ, zero, suc, ◌+◌, ◌-◌, ◌<◌, ◌≤◌, Bool, true, false, cond, not, ltb, ◌⊎◌, List, [], ◌∷◌, length, Some, None, Option, sym, refl, ap, ◌∙◌, subst, inl, inr, ⊎_elim, arith}
-use Rattle.std.specs.List.{AllByRecursion as All}
+use Rattle.std.specs.List.{AllByRecursion}
 use Rattle.supply.specs.declared.grant.Grant.{Grant}
 use Rattle.supply.specs.declared.grant.Grant.TheVariants as grant
 use Rattle.dispatch.specs.declared.job.Job.{Job}
@@ -40,13 +40,13 @@ sooner_none goes None p e = (refl, e)
 sooner_none goes (Some a) None e = absurd (some_not_none a e)
 sooner_none goes (Some a) (Some b) e = absurd (cond_not_none (goes a.job b.job) a b e)
 
-pub chosen_none_free : (goes : Goes) (rows : List RowState) → first goes rows ≡ None → All Free rows
+pub chosen_none_free : (goes : Goes) (rows : List RowState) → first goes rows ≡ None → AllByRecursion Free rows
 chosen_none_free goes [] e = tt
 chosen_none_free goes (r ∷ rows) e =
     let none = sooner_none goes r.active (first goes rows) e in
     (none.0, chosen_none_free goes rows none.1)
 
-pub free_no_jobs : (rows : List RowState) → All Free rows → jobs_of rows ≡ []
+pub free_no_jobs : (rows : List RowState) → AllByRecursion Free rows → jobs_of rows ≡ []
 free_no_jobs [] free = refl
 free_no_jobs (r ∷ rows) free = ap (λ o. and_job o (jobs_of rows)) free.0 ∙ free_no_jobs rows free.1
 

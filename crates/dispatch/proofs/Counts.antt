@@ -1,9 +1,9 @@
 -- Over any list of calls the counters are what the ticks answered, and no job is lost or made up. Assumes nothing.
-use Rattle.std.proofs.Common.{◌≡◌, ℕ, ◌+◌, ◌-◌, ◌<◌, Bool, true, false, cond, eqb, ltb, List, [], ◌∷◌, map, length, Some, None, Option, refl, ap, subst, arith}
+use Rattle.std.proofs.Common.{◌≡◌, ℕ, ◌+◌, ◌-◌, ◌<◌, Bool, true, false, cond, eqb, ltb, List, [], ◌∷◌, map, length, Some, None, Option, refl, ap, subst, sum_by, arith}
+use Rattle.std.proofs.lemmas.List.Sums.{sum_by-cons}
 use Rattle.supply.specs.declared.grant.Grant.{Grant}
 use Rattle.supply.specs.declared.grant.Grant.TheVariants as grant
 use Rattle.table.specs.declared.row.Row.{Row}
-use Rattle.table.specs.Sums.{total}
 use Rattle.dispatch.specs.declared.call.Call.{Call}
 use Rattle.dispatch.specs.declared.call.Call.TheVariants as call
 use Rattle.dispatch.specs.declared.job.Job.{Job}
@@ -19,7 +19,7 @@ use Rattle.dispatch.specs.Ticks.{Goes, first, worked, served, progress, late, ke
 use Rattle.dispatch.specs.Runs.{RunState, fresh, with_rows, release_answer, end_answer, credited, ticked, tick_answer, passed, pending_answer, reply, after, replies, after_all}
 use Rattle.dispatch.specs.Orderly.{Orderly}
 use Rattle.dispatch.specs.Promises.{tick_one, release_one, end_one, missed_of, of_tick, Conserved, Counted}
-use Rattle.dispatch.proofs.Lists.{At, at_from, total_change_by}
+use Rattle.dispatch.proofs.Lists.{At, at_from, sum_by_change_by}
 use Rattle.dispatch.proofs.Chosen.{Free, Has, chosen_at}
 use Rattle.dispatch.proofs.Accepted.{reply_both, replied_both, release_accepted, end_accepted, tick_accepted}
 use Rattle.dispatch.proofs.Keeping.{free_at, orderly_fresh, orderly_after}
@@ -37,10 +37,9 @@ and_job-length : (o : Option Active) (js : List Job) → length (and_job o js) �
 and_job-length None js = omega arith
 and_job-length (Some a) js = omega arith
 
-pub jobs_counted : (rows : List RowState) → length (jobs_of rows) ≡ total pending_of rows
-unfolding total
+pub jobs_counted : (rows : List RowState) → length (jobs_of rows) ≡ sum_by pending_of rows
 jobs_counted [] = refl
-jobs_counted (r ∷ rows) = omega (arith, and_job-length r.active (jobs_of rows), jobs_counted rows)
+jobs_counted (r ∷ rows) = omega (arith, sum_by-cons pending_of r rows, and_job-length r.active (jobs_of rows), jobs_counted rows)
 
 -- one row
 
@@ -70,17 +69,24 @@ kept_pending clock (Some a) = kept_either (eqb a.job.deadline clock) a
 
 -- all rows
 
-struck_pending : (clock : ℕ) (rows : List RowState) → missed clock rows + total pending_of (struck clock rows) ≡ total pending_of rows
-unfolding total
+struck_pending : (clock : ℕ) (rows : List RowState) → missed clock rows + sum_by pending_of (struck clock rows) ≡ sum_by pending_of rows
 struck_pending clock [] = refl
-struck_pending clock (r ∷ rows) = omega (arith, kept_pending clock r.active, struck_pending clock rows)
+struck_pending clock (r ∷ rows) =
+    omega (
+      arith,
+      sum_by-cons (λ (x : RowState). late clock x.active) r rows,
+      sum_by-cons pending_of (with_active (kept clock r.active) r) (struck clock rows),
+      sum_by-cons pending_of r rows,
+      kept_pending clock r.active,
+      struck_pending clock rows,
+    )
 
 served_pending : (goes : Goes) (clock later : ℕ) (rows : List RowState) → Orderly clock 1 rows → (g : Grant) (p : Option Active) → first goes rows ≡ p
-    → total pending_of (served g p rows) + ended_one (progress g p later) ≡ total pending_of rows + 0
+    → sum_by pending_of (served g p rows) + ended_one (progress g p later) ≡ sum_by pending_of rows + 0
 served_pending goes clock later rows orderly grant.Withheld p e = refl
 served_pending goes clock later rows orderly grant.Granted None e = refl
 served_pending goes clock later rows orderly grant.Granted (Some a) e =
-    total_change_by (Has a) pending_of (with_active (worked a)) 0 (ended_one (progress grant.Granted (Some a) later)) (worked_pending later a)
+    sum_by_change_by (Has a) pending_of (with_active (worked a)) 0 (ended_one (progress grant.Granted (Some a) later)) (worked_pending later a)
     (a.job.row - 1) rows (chosen_at goes clock rows a orderly e)
 
 -- one call
@@ -111,7 +117,7 @@ module _ {S : Type 0} (step : S → Bool → (Grant × S)) (goes : Goes) where
         arith,
         jobs_counted st.rows,
         jobs_counted (change (released i st.clock) (i - 1) st.rows),
-        total_change_by Free pending_of (released i st.clock) 1 0 (released_pending i st.clock) (i - 1) st.rows free,
+        sum_by_change_by Free pending_of (released i st.clock) 1 0 (released_pending i st.clock) (i - 1) st.rows free,
       ))
       (λ f. refl)
   balances (call.End i) st orderly =
@@ -125,7 +131,7 @@ module _ {S : Type 0} (step : S → Bool → (Grant × S)) (goes : Goes) where
         arith,
         jobs_counted st.rows,
         jobs_counted (change cleared (i - 1) st.rows),
-        total_change_by (Has a) pending_of cleared 0 1 (cleared_pending a) (i - 1) st.rows has,
+        sum_by_change_by (Has a) pending_of cleared 0 1 (cleared_pending a) (i - 1) st.rows has,
       ))
       (λ f. refl)
   balances (call.Tick offer) st orderly =
@@ -165,31 +171,40 @@ module _ {S : Type 0} (step : S → Bool → (Grant × S)) (goes : Goes) where
   -- any list of calls
 
   pub balances_all : (cs : List Call) (st : RunState S) → Orderly st.clock 1 st.rows
-      → total release_one (replies step goes cs st) + length (jobs_of st.rows)
-      ≡ total end_one (replies step goes cs st) + total missed_of (replies step goes cs st) + length (jobs_of (after_all step goes cs st).rows)
-  unfolding total
+      → sum_by release_one (replies step goes cs st) + length (jobs_of st.rows)
+      ≡ sum_by end_one (replies step goes cs st) + sum_by missed_of (replies step goes cs st) + length (jobs_of (after_all step goes cs st).rows)
   balances_all [] st orderly = omega arith
-  balances_all (c ∷ cs) st orderly = omega (arith, balances c st orderly, balances_all cs (after step goes c st) (orderly_after step goes c st orderly))
+  balances_all (c ∷ cs) st orderly =
+      let now : Reply = reply step goes c st in
+      let rest : List Reply = replies step goes cs (after step goes c st) in
+      omega (
+        arith,
+        sum_by-cons release_one now rest,
+        sum_by-cons end_one now rest,
+        sum_by-cons missed_of now rest,
+        balances c st orderly,
+        balances_all cs (after step goes c st) (orderly_after step goes c st orderly),
+      )
 
-  pub clock_after : (cs : List Call) (st : RunState S) → (after_all step goes cs st).clock ≡ st.clock + total tick_one (replies step goes cs st)
-  unfolding total
+  pub clock_after : (cs : List Call) (st : RunState S) → (after_all step goes cs st).clock ≡ st.clock + sum_by tick_one (replies step goes cs st)
   clock_after [] st = omega arith
-  clock_after (c ∷ cs) st = omega (arith, (counters_after c st).0, clock_after cs (after step goes c st))
+  clock_after (c ∷ cs) st =
+      omega (arith, sum_by-cons tick_one (reply step goes c st) (replies step goes cs (after step goes c st)), (counters_after c st).0, clock_after cs (after step goes c st))
 
-  pub granted-after : (cs : List Call) (st : RunState S) → (after_all step goes cs st).granted ≡ st.granted + total (of_tick granted_one) (replies step goes cs st)
-  unfolding total
+  pub granted-after : (cs : List Call) (st : RunState S) → (after_all step goes cs st).granted ≡ st.granted + sum_by (of_tick granted_one) (replies step goes cs st)
   granted-after [] st = omega arith
-  granted-after (c ∷ cs) st = omega (arith, (counters_after c st).1, granted-after cs (after step goes c st))
+  granted-after (c ∷ cs) st =
+      omega (arith, sum_by-cons (of_tick granted_one) (reply step goes c st) (replies step goes cs (after step goes c st)), (counters_after c st).1, granted-after cs (after step goes c st))
 
-  pub ran_after : (cs : List Call) (st : RunState S) → (after_all step goes cs st).ran ≡ st.ran + total (of_tick ran_one) (replies step goes cs st)
-  unfolding total
+  pub ran_after : (cs : List Call) (st : RunState S) → (after_all step goes cs st).ran ≡ st.ran + sum_by (of_tick ran_one) (replies step goes cs st)
   ran_after [] st = omega arith
-  ran_after (c ∷ cs) st = omega (arith, (counters_after c st).2, ran_after cs (after step goes c st))
+  ran_after (c ∷ cs) st =
+      omega (arith, sum_by-cons (of_tick ran_one) (reply step goes c st) (replies step goes cs (after step goes c st)), (counters_after c st).2, ran_after cs (after step goes c st))
 
-  pub idle_after : (cs : List Call) (st : RunState S) → (after_all step goes cs st).idle ≡ st.idle + total (of_tick idle_one) (replies step goes cs st)
-  unfolding total
+  pub idle_after : (cs : List Call) (st : RunState S) → (after_all step goes cs st).idle ≡ st.idle + sum_by (of_tick idle_one) (replies step goes cs st)
   idle_after [] st = omega arith
-  idle_after (c ∷ cs) st = omega (arith, (counters_after c st).3, idle_after cs (after step goes c st))
+  idle_after (c ∷ cs) st =
+      omega (arith, sum_by-cons (of_tick idle_one) (reply step goes c st) (replies step goes cs (after step goes c st)), (counters_after c st).3, idle_after cs (after step goes c st))
 
   -- a new run has no job
   new_pending : (rs : List Row) → length (jobs_of (map new_row rs)) ≡ 0

@@ -1,8 +1,8 @@
 -- Lists with one element changed or with every element mapped: what holds at a place and of each element, and sums.
 -- Assumes nothing.
-use Rattle.std.proofs.Common.{◌≡◌, ℕ, zero, suc, ◌+◌, ◌<◌, ◌≤◌, List, [], ◌∷◌, map, length, get_or, set, refl, ap, ◌∙◌, arith}
-use Rattle.std.specs.List.{AllByRecursion as All}
-use Rattle.table.specs.Sums.{total}
+use Rattle.std.proofs.Common.{◌≡◌, ℕ, zero, suc, ◌+◌, ◌<◌, ◌≤◌, List, [], ◌∷◌, map, length, get_or, set, refl, ap, ◌∙◌, sum_by, arith}
+use Rattle.std.proofs.lemmas.List.Sums.{sum_by-cons}
+use Rattle.std.specs.List.{AllByRecursion}
 use Rattle.dispatch.specs.Jobs.{change}
 
 -- P holds of the element at i, which is there
@@ -29,14 +29,14 @@ module _ {A : Type 0} where
   at_from P d zero (x ∷ xs) lt p = p
   at_from P d (suc i) (x ∷ xs) lt p = at_from P d i xs (omega arith) p
 
-  pub at_of_all : (P : A → Type 0) (i : ℕ) (xs : List A) → i < length xs → All P xs → At P i xs
+  pub at_of_all : (P : A → Type 0) (i : ℕ) (xs : List A) → i < length xs → AllByRecursion P xs → At P i xs
   at_of_all P i [] lt all = absurd (omega arith)
   at_of_all P zero (x ∷ xs) lt all = all.0
   at_of_all P (suc i) (x ∷ xs) lt all = at_of_all P i xs (omega arith) all.1
 
   -- what holds of each element
 
-  pub all_map : (P R : A → Type 0) (g : A → A) → ((x : A) → P x → R (g x)) → (xs : List A) → All P xs → All R (map g xs)
+  pub all_map : (P R : A → Type 0) (g : A → A) → ((x : A) → P x → R (g x)) → (xs : List A) → AllByRecursion P xs → AllByRecursion R (map g xs)
   all_map P R g new [] all = tt
   all_map P R g new (x ∷ xs) all = (new x all.0, all_map P R g new xs all.1)
 
@@ -82,21 +82,20 @@ module _ {A : Type 0} where
 
 -- sums
 
-pub total_le : {A : Type 0} (P : A → Type 0) (f h : A → ℕ) → ((x : A) → P x → f x ≤ h x) → (xs : List A) → All P xs → total f xs ≤ total h xs
-unfolding total
-total_le P f h le [] all = omega arith
-total_le P f h le (x ∷ xs) all = omega (arith, le x all.0, total_le P f h le xs all.1)
+-- where each element that P holds of is worth no more by f than by h, so is the list
+pub sum_by_le_where : {A : Type 0} (P : A → Type 0) (f h : A → ℕ) → ((x : A) → P x → f x ≤ h x) → (xs : List A) → AllByRecursion P xs → sum_by f xs ≤ sum_by h xs
+sum_by_le_where P f h le [] all = omega arith
+sum_by_le_where P f h le (x ∷ xs) all = omega (arith, sum_by-cons f x xs, sum_by-cons h x xs, le x all.0, sum_by_le_where P f h le xs all.1)
 
 -- where the changed element is worth a more and b less than it was, so is the list
-pub total_change_by : {A : Type 0} (Q : A → Type 0) (f : A → ℕ) (g : A → A) (a b : ℕ) → ((x : A) → Q x → f (g x) + b ≡ f x + a)
-    → (i : ℕ) (xs : List A) → At Q i xs → total f (change g i xs) + b ≡ total f xs + a
-unfolding total
-total_change_by Q f g a b by i [] at = absurd at
-total_change_by Q f g a b by zero (x ∷ xs) at = omega (arith, by x at)
-total_change_by Q f g a b by (suc i) (x ∷ xs) at = omega (arith, total_change_by Q f g a b by i xs at)
+pub sum_by_change_by : {A : Type 0} (Q : A → Type 0) (f : A → ℕ) (g : A → A) (a b : ℕ) → ((x : A) → Q x → f (g x) + b ≡ f x + a)
+    → (i : ℕ) (xs : List A) → At Q i xs → sum_by f (change g i xs) + b ≡ sum_by f xs + a
+sum_by_change_by Q f g a b by i [] at = absurd at
+sum_by_change_by Q f g a b by zero (x ∷ xs) at = omega (arith, sum_by-cons f x xs, sum_by-cons f (g x) xs, by x at)
+sum_by_change_by Q f g a b by (suc i) (x ∷ xs) at =
+    omega (arith, sum_by-cons f x xs, sum_by-cons f x (change g i xs), sum_by_change_by Q f g a b by i xs at)
 
 -- the sum over a mapped list
-pub total-map : {A B : Type 0} (f : B → ℕ) (g : A → B) (xs : List A) → total f (map g xs) ≡ total (λ x. f (g x)) xs
-unfolding total
-total-map f g [] = refl
-total-map f g (x ∷ xs) = omega (arith, total-map f g xs)
+pub sum_by-map : {A B : Type 0} (f : B → ℕ) (g : A → B) (xs : List A) → sum_by f (map g xs) ≡ sum_by (λ x. f (g x)) xs
+sum_by-map f g [] = refl
+sum_by-map f g (x ∷ xs) = omega (arith, sum_by-cons f (g x) (map g xs), sum_by-cons (λ y. f (g y)) x xs, sum_by-map f g xs)

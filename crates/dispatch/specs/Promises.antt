@@ -1,8 +1,7 @@
 -- What holds over every list of calls of a new run. Assumes nothing.
-use Rattle.std.specs.Prelude.{◌≡◌, ℕ, ◌+◌, ◌≤◌, Bool, List, [], ◌∷◌, ◌++◌, length}
+use Rattle.std.specs.Prelude.{◌≡◌, ℕ, ◌+◌, ◌≤◌, Bool, List, [], ◌∷◌, ◌++◌, length, sum_by}
 use Rattle.supply.specs.declared.grant.Grant.{Grant}
 use Rattle.table.specs.declared.row.Row.{Row}
-use Rattle.table.specs.Sums.{total}
 use Rattle.dispatch.specs.declared.call.Call.{Call}
 use Rattle.dispatch.specs.declared.call.Call.TheVariants as call
 use Rattle.dispatch.specs.declared.reply.Progress.{Progress}
@@ -13,7 +12,7 @@ use Rattle.dispatch.specs.declared.reply.Reply.TheVariants as told
 use Rattle.dispatch.specs.Progresses.{granted_one, ran_one, idle_one, ended_one}
 use Rattle.dispatch.specs.Jobs.{jobs_of}
 use Rattle.dispatch.specs.Ticks.{Goes}
-use Rattle.dispatch.specs.Runs.{RunState, fresh, reply, after, replies, after_all}
+use Rattle.dispatch.specs.Runs.{RunState, fresh, reply, replies, after_all}
 
 -- an age limit for each row, counted from 1
 
@@ -97,14 +96,14 @@ of_tick f (told.Refused f') = 0
 
 -- no job is lost or made up: each accepted release was ended, or missed, or is pending
 abbrev pub Conserved : {S : Type 0} → List Reply → RunState S → Type 0
-Conserved rs st = total release_one rs ≡ total end_one rs + total missed_of rs + length (jobs_of st.rows)
+Conserved rs st = sum_by release_one rs ≡ sum_by end_one rs + sum_by missed_of rs + length (jobs_of st.rows)
 
 -- the counters are what the ticks answered
 pub record Counted {S : Type 0} (rs : List Reply) (st : RunState S) : Type 0 where
-  pub clock : st.clock ≡ total tick_one rs
-  pub granted : st.granted ≡ total (of_tick granted_one) rs
-  pub ran : st.ran ≡ total (of_tick ran_one) rs
-  pub idle : st.idle ≡ total (of_tick idle_one) rs
+  pub clock : st.clock ≡ sum_by tick_one rs
+  pub granted : st.granted ≡ sum_by (of_tick granted_one) rs
+  pub ran : st.ran ≡ sum_by (of_tick ran_one) rs
+  pub idle : st.idle ≡ sum_by (of_tick idle_one) rs
 
 module _ {S : Type 0} (step : S → Bool → (Grant × S)) (goes : Goes) where
   -- a tick of these calls is not refused and ends with nothing pending: a pending call right after it answers 0
@@ -118,5 +117,5 @@ module _ {S : Type 0} (step : S → Bool → (Grant × S)) (goes : Goes) where
   -- among any l ticks in a row, whatever is called before and between, one ends with nothing pending
   abbrev pub QuietWithin : ℕ → RunState S → Type 0
   QuietWithin l st =
-      (before window : List Call) → l ≤ total tick_one (replies step goes window (after_all step goes before st))
+      (before window : List Call) → l ≤ sum_by tick_one (replies step goes window (after_all step goes before st))
       → QuietTick window (after_all step goes before st)

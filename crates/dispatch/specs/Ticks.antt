@@ -1,8 +1,7 @@
 -- What a tick does to a run's rows. Assumes nothing.
-use Rattle.std.specs.Prelude.{ℕ, ◌+◌, ◌-◌, Bool, cond, List, [], ◌∷◌, map, Some, None, Option, ◌==◌, nat_lt}
+use Rattle.std.specs.Prelude.{ℕ, ◌+◌, ◌-◌, Bool, cond, List, [], ◌∷◌, map, Some, None, Option, ◌==◌, nat_lt, sum_by}
 use Rattle.supply.specs.declared.grant.Grant.{Grant}
 use Rattle.supply.specs.declared.grant.Grant.TheVariants as grant
-use Rattle.table.specs.Sums.{total}
 use Rattle.dispatch.specs.declared.job.Job.{Job}
 use Rattle.dispatch.specs.declared.job.Active.{Active}
 use Rattle.dispatch.specs.declared.job.RowState.{RowState}
@@ -56,7 +55,7 @@ late clock (Some a) = cond (a.job.deadline == clock) 1 0
 
 -- how many are struck off
 abbrev pub missed : ℕ → List RowState → ℕ
-missed clock rows = total (λ r. late clock r.active) rows
+missed clock rows = sum_by (λ r. late clock r.active) rows
 
 abbrev pub lowest_of : ℕ → Option Active → ℕ → ℕ
 lowest_of clock None further = further

@@ -28,11 +28,11 @@ pub fn replay<S: Supply + Drop, O: Order + Drop>(
     order: O,
     calls: &[Call],
 ) -> Result<Vec<Reply>, AllocError>
-    ensures replies { IfOk result (λ v. v.items ≡ replies step (goes_by keyed before order) calls.now (fresh (rows_of table.now) supply)) }
-    ensures accepted_table_misses_no_job { IfOk result (λ v. (a : O.Accepted) → tested order (rows_of table.now) (bound supply) (Ok a) → Each (InTime (limit order (rows_of table.now) a)) calls.now v.items) }
-    ensures busy_window_ends { (l : ℕ) → Window (rows_of table.now) (bound supply) l → QuietWithin step (goes_by keyed before order) l (fresh (rows_of table.now) supply) }
-    ensures no_job_is_lost_or_made_up { IfOk result (λ v. Conserved v.items (after_all step (goes_by keyed before order) calls.now (fresh (rows_of table.now) supply))) }
-    ensures counters_tell_the_ticks { IfOk result (λ v. Counted v.items (after_all step (goes_by keyed before order) calls.now (fresh (rows_of table.now) supply))) }
+    ensures replies { IfOk result (λ v. v.items ≡ replies S.step (goes_by O.keyed O.before order) calls.now (fresh (rows_of table.now) supply)) }
+    ensures accepted_table_misses_no_job { IfOk result (λ v. (a : O.Accepted) → O.tested order (rows_of table.now) (S.bound supply) (Ok a) → Each (InTime (O.limit order (rows_of table.now) a)) calls.now v.items) }
+    ensures busy_window_ends { (l : ℕ) → Window (rows_of table.now) (S.bound supply) l → QuietWithin S.step (goes_by O.keyed O.before order) l (fresh (rows_of table.now) supply) }
+    ensures no_job_is_lost_or_made_up { IfOk result (λ v. Conserved v.items (after_all S.step (goes_by O.keyed O.before order) calls.now (fresh (rows_of table.now) supply))) }
+    ensures counters_tell_the_ticks { IfOk result (λ v. Counted v.items (after_all S.step (goes_by O.keyed O.before order) calls.now (fresh (rows_of table.now) supply))) }
 {
     let mut run = Run::new(table, supply, order);
     let mut replies = Vec::new(heap);

@@ -1,7 +1,7 @@
 -- What striking off comes to, as the code does it, from the last row to the first. Assumes nothing.
-use Rattle.std.proofs.Common.{◌≡◌, ℕ, zero, suc, ◌+◌, ◌-◌, ◌<◌, Bool, true, false, cond, eqb, List, [], ◌∷◌, ◌++◌, length, get_or, take, drop, set, Some, None, Option, sym, refl, ap, ◌∙◌, arith}
+use Rattle.std.proofs.Common.{◌≡◌, ℕ, zero, suc, ◌+◌, ◌<◌, Bool, true, false, cond, eqb, List, [], ◌∷◌, ◌++◌, length, get_or, take, drop, set, Some, None, Option, sym, refl, ap, ◌∙◌, arith}
 use Rattle.std.proofs.lemmas.List.{drop_more}
-use Rattle.table.proofs.Totals.{total_cons}
+use Rattle.std.proofs.lemmas.List.Sums.{sum_by-drop_more}
 use Rattle.dispatch.specs.declared.job.Active.{Active}
 use Rattle.dispatch.specs.declared.job.RowState.{RowState}
 use Rattle.dispatch.specs.Jobs.{with_active}
@@ -28,7 +28,7 @@ struck_none clock further (Some a) e = by (eqb a.job.deadline clock) e
 -- one row more, counted down
 module _ (clock k : ℕ) (rows : List RowState) (d : RowState) (lt : k < length rows) where
   pub missed_down : missed clock (drop k rows) ≡ late clock (get_or rows k d).active + missed clock (drop (k + 1) rows)
-  missed_down = ap (missed clock) (drop_more rows k d lt) ∙ total_cons _ (get_or rows k d) (drop (k + 1) rows)
+  missed_down = sum_by-drop_more (λ (r : RowState). late clock r.active) rows k d lt
 
   pub lowest_down : lowest clock (drop k rows) ≡ lowest_of clock (get_or rows k d).active (lowest clock (drop (k + 1) rows))
   lowest_down = ap (lowest clock) (drop_more rows k d lt)

@@ -12,7 +12,7 @@ use supply::Grant;
 
 // Whether the first row has a job that goes before the second's, if that has one.
 fn leads<O: Order>(order: &O, a: &RowState, b: &RowState) -> bool
-    ensures { result ≡ leads (goes_by keyed before order.now) a.now.active b.now.active }
+    ensures { result ≡ leads (goes_by O.keyed O.before order.now) a.now.active b.now.active }
 {
     let Some(mine) = a.active else {
         return false;
@@ -25,7 +25,7 @@ fn leads<O: Order>(order: &O, a: &RowState, b: &RowState) -> bool
 
 // The pending job that goes first.
 pub(crate) fn first<O: Order>(order: &O, rows: &[RowState]) -> Option<Active>
-    ensures { result ≡ first (goes_by keyed before order.now) rows.now }
+    ensures { result ≡ first (goes_by O.keyed O.before order.now) rows.now }
 {
     let count = rows.len();
     if count == 0 {

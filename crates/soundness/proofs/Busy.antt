@@ -1,7 +1,8 @@
 -- Where a supply covers what a table can release in l ticks, of any l ticks in a row one ends with nothing pending,
 -- whatever the order of jobs. Assumes nothing.
-use Rattle.std.proofs.Common.{◌≡◌, ℕ, suc, ◌+◌, ◌-◌, ◌<◌, ◌≤◌, Bool, true, cond, leb, ◌⊎◌, List, [], ◌∷◌, map, length, Some, None, Ok, Err, Option, sym, refl, ap, ◌∙◌, subst, subst₂, inl, inr, ⊎_elim, arith}
-use Rattle.std.specs.List.{AllByRecursion as All}
+use Rattle.std.proofs.Common.{◌≡◌, ℕ, suc, ◌+◌, ◌-◌, ◌<◌, ◌≤◌, Bool, true, cond, leb, ◌⊎◌, List, [], ◌∷◌, map, length, Some, None, Ok, Err, Option, sym, refl, ap, ◌∙◌, subst, subst₂, inl, inr, ⊎_elim, sum_by, arith}
+use Rattle.std.specs.List.{AllByRecursion}
+use Rattle.std.proofs.lemmas.List.Sums.{sum_by-cons}
 use Rattle.std.proofs.lemmas.Bool.{cases_lt}
 use Rattle.fault.specs.declared.Layer.TheVariants as layer
 use Rattle.fault.specs.Layers.{fault_of}
@@ -30,16 +31,16 @@ use Rattle.dispatch.proofs.Chosen.{Free, chosen_at, chosen_none_free, free_no_jo
 use Rattle.dispatch.proofs.Accepted.{unless_refused_both, reply_both, release_accepted}
 use Rattle.dispatch.proofs.Counts.{counters_after}
 use Rattle.soundness.proofs.Lawful.{Lawful}
-use Rattle.soundness.proofs.Weights.{all_work, wanted, asked, total_later, total-struck, total_cleared, total-released, total_counted, total_quiet}
+use Rattle.soundness.proofs.Weights.{all_work, wanted, asked, sum_by_later, sum_by-struck, sum_by_cleared, sum_by-released, sum_by_counted, sum_by_quiet}
 use Rattle.soundness.proofs.Regular.{Regular, regular_after, regular_fresh, chosen_orderly, spends}
 
 -- rows with nothing pending
 
-new_free : (rs : List Row) → All Free (map new_row rs)
+new_free : (rs : List Row) → AllByRecursion Free (map new_row rs)
 new_free [] = tt
 new_free (r ∷ rs) = (refl, new_free rs)
 
-struck_free : (clock : ℕ) (rows : List RowState) → All Free rows → All Free (struck clock rows)
+struck_free : (clock : ℕ) (rows : List RowState) → AllByRecursion Free rows → AllByRecursion Free (struck clock rows)
 struck_free clock rows free = all_map Free Free (λ r. with_active (kept clock r.active) r) (λ r none. ap (kept clock) none) rows free
 
 free_wants_none : (counts : Job → Bool) (r : RowState) → Free r → wanted counts r.active ≡ 0
@@ -50,10 +51,10 @@ wants_none_free clock i r None own none = refl
 wants_none_free clock i r (Some a) own none = absurd (omega (arith, own.6))
 
 -- rows that ask for nothing have nothing pending
-asks_none_free : (e clock i : ℕ) (rows : List RowState) → Orderly clock i rows → total (asked (all_work e) clock) rows ≡ 0 → All Free rows
-unfolding total
+asks_none_free : (e clock i : ℕ) (rows : List RowState) → Orderly clock i rows → sum_by (asked (all_work e) clock) rows ≡ 0 → AllByRecursion Free rows
 asks_none_free e clock i [] orderly none = tt
 asks_none_free e clock i (r ∷ rows) orderly none =
+    let parts : asked (all_work e) clock r + sum_by (asked (all_work e) clock) rows ≡ 0 = sym (sum_by-cons (asked (all_work e) clock) r rows) ∙ none in
     (wants_none_free clock i r r.active orderly.0 (omega arith), asks_none_free e clock (suc i) rows orderly.1 (omega arith))
 
 -- a tick's work
@@ -61,37 +62,37 @@ asks_none_free e clock i (r ∷ rows) orderly none =
 module _ (goes : Goes) (e clock : ℕ) (rows : List RowState) (orderly : Orderly clock 1 rows) where
   -- a granted tick finds nothing pending, or takes one from what is asked for
   served_asks : (g : Grant) (p : Option Active) → first goes rows ≡ p
-      → All Free (served g p rows) ⊎ (total (asked (all_work e) clock) (served g p rows) + spent g ≤ total (asked (all_work e) clock) rows)
+      → AllByRecursion Free (served g p rows) ⊎ (sum_by (asked (all_work e) clock) (served g p rows) + spent g ≤ sum_by (asked (all_work e) clock) rows)
   served_asks grant.Withheld p is = inr (omega arith)
   served_asks grant.Granted None is = inl (chosen_none_free goes rows is)
   served_asks grant.Granted (Some a) is =
-      inr (total_counted (all_work e) clock (a.job.row - 1) a refl (chosen_orderly goes clock rows a orderly is).6 rows (chosen_at goes clock rows a orderly is))
+      inr (sum_by_counted (all_work e) clock (a.job.row - 1) a refl (chosen_orderly goes clock rows a orderly is).6 rows (chosen_at goes clock rows a orderly is))
 
 module _ {S : Type 0} (bound floor : S → ℕ → ℕ) (step : S → Bool → (Grant × S)) (laws : Lawful bound floor step) (goes : Goes)
     (rs : List Row) (B : ℕ → ℕ) (l : ℕ) (some : 1 ≤ l) (fits : requested rs l ≤ B l) where
   -- what may still be asked of the supply before e is promised by then
   abbrev Covered : ℕ → RunState S → Type 0
-  Covered e st = (st.clock < e) × (total (asked (all_work e) st.clock) st.rows ≤ floor st.supply (e - st.clock))
+  Covered e st = (st.clock < e) × (sum_by (asked (all_work e) st.clock) st.rows ≤ floor st.supply (e - st.clock))
 
   -- where nothing is pending, the next l ticks are promised all that can be asked for in them
-  covered_quiet : (st : RunState S) → Regular bound rs B st → All Free st.rows → Covered (st.clock + l) st
+  covered_quiet : (st : RunState S) → Regular bound rs B st → AllByRecursion Free st.rows → Covered (st.clock + l) st
   unfolding requested
   covered_quiet st regular free =
       let e : ℕ = st.clock + l in
       let same : e - st.clock ≡ l = omega arith in
-      let most : total (asked (all_work e) st.clock) st.rows ≤ requested rs l =
-      subst₂ (λ t rs'. total (asked (all_work e) st.clock) st.rows ≤ total (released_work t) rs') same regular.table
-      (total_quiet (all_work e) Free (free_wants_none (λ _. true)) st.clock st.rows free) in
+      let most : sum_by (asked (all_work e) st.clock) st.rows ≤ requested rs l =
+      subst₂ (λ t rs'. sum_by (asked (all_work e) st.clock) st.rows ≤ total (released_work t) rs') same regular.table
+      (sum_by_quiet (all_work e) Free (free_wants_none (λ _. true)) st.clock st.rows free) in
       let promised : bound st.supply l ≡ B l = regular.promised l in
-      (omega arith, subst (λ t. total (asked (all_work e) st.clock) st.rows ≤ floor st.supply t) (sym same) (omega (arith, most, fits, laws.covered st.supply l)))
+      (omega arith, subst (λ t. sum_by (asked (all_work e) st.clock) st.rows ≤ floor st.supply t) (sym same) (omega (arith, most, fits, laws.covered st.supply l)))
 
   covered_released : (e i : ℕ) (st : RunState S) → Covered e st → At (λ r. r.next ≤ st.clock) (i - 1) st.rows
       → Covered e (with_rows st (change (released i st.clock) (i - 1) st.rows))
-  covered_released e i st covered due = (covered.0, omega (arith, covered.1, total-released (all_work e) i st.clock (i - 1) covered.0 st.rows due))
+  covered_released e i st covered due = (covered.0, omega (arith, covered.1, sum_by-released (all_work e) i st.clock (i - 1) covered.0 st.rows due))
 
   -- a tick ends with nothing pending, or what is asked for is still promised
   covered_passed : (e : ℕ) (offer : Bool) (st : RunState S) → Regular bound rs B st → Regular bound rs B (passed step goes offer st) → Covered e st
-      → All Free (passed step goes offer st).rows ⊎ Covered e (passed step goes offer st)
+      → AllByRecursion Free (passed step goes offer st).rows ⊎ Covered e (passed step goes offer st)
   covered_passed e offer st regular later covered =
       let g : Grant = (step st.supply offer).0 in
       let rows : List RowState = credited step goes offer st in
@@ -99,8 +100,8 @@ module _ {S : Type 0} (bound floor : S → ℕ → ℕ) (step : S → Bool → (
       ⊎_elim
       (λ free. inl (struck_free (st.clock + 1) rows free))
       (λ less.
-      let asks : total (asked (all_work e) (st.clock + 1)) new.rows + spent g ≤ total (asked (all_work e) st.clock) st.rows =
-      omega (arith, less, total_later (all_work e) st.clock (st.clock + 1) (omega arith) rows, total-struck (all_work e) (st.clock + 1) (st.clock + 1) rows) in
+      let asks : sum_by (asked (all_work e) (st.clock + 1)) new.rows + spent g ≤ sum_by (asked (all_work e) st.clock) st.rows =
+      omega (arith, less, sum_by_later (all_work e) st.clock (st.clock + 1) (omega arith) rows, sum_by-struck (all_work e) (st.clock + 1) (st.clock + 1) rows) in
       let gives : floor st.supply (e - st.clock) ≤ floor new.supply (e - (st.clock + 1)) + spent g = spends bound floor step laws goes st.supply offer st.clock e covered.0 in
       ⊎_elim
       (λ before. inr (before, omega (arith, asks, gives, covered.1)))
@@ -113,7 +114,7 @@ module _ {S : Type 0} (bound floor : S → ℕ → ℕ) (step : S → Bool → (
 
   -- a call that is an accepted tick and leaves nothing pending
   abbrev Quiets : Call → Reply → RunState S → Type 0
-  Quiets c r new = (offer : Bool) × (c ≡ call.Tick offer) × ((t : Ticked) × (r ≡ told.Ticked t)) × All Free new.rows
+  Quiets c r new = (offer : Bool) × (c ≡ call.Tick offer) × ((t : Ticked) × (r ≡ told.Ticked t)) × AllByRecursion Free new.rows
 
   covered_after : (e : ℕ) (c : Call) (st : RunState S) → Regular bound rs B st → Covered e st
       → Quiets c (reply step goes c st) (after step goes c st) ⊎ Covered e (after step goes c st)
@@ -125,7 +126,7 @@ module _ {S : Type 0} (bound floor : S → ℕ → ℕ) (step : S → Bool → (
       covered)
   covered_after e (call.End i) st regular covered =
       inr (unless_refused_both (Covered e) (end_answer i st) (with_rows st (change cleared (i - 1) st.rows)) st
-      (λ age is. (covered.0, omega (arith, covered.1, total_cleared (all_work e) st.clock (i - 1) st.rows)))
+      (λ age is. (covered.0, omega (arith, covered.1, sum_by_cleared (all_work e) st.clock (i - 1) st.rows)))
       covered)
   covered_after e (call.Tick offer) st regular covered =
       reply_both (λ r new. Quiets (call.Tick offer) r new ⊎ Covered e new) told.Ticked (tick_answer step goes offer st) (passed step goes offer st) st
@@ -139,7 +140,7 @@ module _ {S : Type 0} (bound floor : S → ℕ → ℕ) (step : S → Bool → (
 
   -- lists of calls
 
-  pending_none : (new : RunState S) → All Free new.rows → reply step goes (call.Pending 0) new ≡ told.Pending 0
+  pending_none : (new : RunState S) → AllByRecursion Free new.rows → reply step goes (call.Pending 0) new ≡ told.Pending 0
   pending_none new free =
       ap (λ (js : List Job). replied told.Pending (cond (leb (length js) 0) (Ok (length js)) (Err (fault_of layer.Run 55 (length js) 0)))) (free_no_jobs new.rows free)
 
@@ -158,22 +159,22 @@ module _ {S : Type 0} (bound floor : S → ℕ → ℕ) (step : S → Bool → (
   quiet_further : (c : Call) (cs : List Call) (st : RunState S) → QuietTick step goes cs (after step goes c st) → QuietTick step goes (c ∷ cs) st
   quiet_further c cs st quiet = (c ∷ quiet.0, quiet.1, quiet.2, ap (λ ds. c ∷ ds) quiet.3, quiet.4, quiet.5)
 
-  quiet_by : (e : ℕ) (cs : List Call) (st : RunState S) → Regular bound rs B st → Covered e st → e ≤ st.clock + total tick_one (replies step goes cs st)
+  quiet_by : (e : ℕ) (cs : List Call) (st : RunState S) → Regular bound rs B st → Covered e st → e ≤ st.clock + sum_by tick_one (replies step goes cs st)
       → QuietTick step goes cs st
-  unfolding total
   quiet_by e [] st regular covered within = absurd (omega (arith, covered.0))
   quiet_by e (c ∷ cs) st regular covered within =
       ⊎_elim
       (quiet_here c cs st)
       (λ further. quiet_further c cs st
-      (quiet_by e cs (after step goes c st) (regular_after bound floor step laws goes rs B c st regular) further (omega (arith, (counters_after step goes c st).0))))
+      (quiet_by e cs (after step goes c st) (regular_after bound floor step laws goes rs B c st regular) further
+      (omega (arith, sum_by-cons tick_one (reply step goes c st) (replies step goes cs (after step goes c st)), (counters_after step goes c st).0))))
       (covered_after e c st regular covered)
 
   -- in every state what is asked for is promised within l ticks
   abbrev Closing : RunState S → Type 0
   Closing st = Regular bound rs B st × ((e : ℕ) × Covered e st × (e ≤ st.clock + l))
 
-  closing_quiet : (st : RunState S) → Regular bound rs B st → All Free st.rows → Closing st
+  closing_quiet : (st : RunState S) → Regular bound rs B st → AllByRecursion Free st.rows → Closing st
   closing_quiet st regular free = (regular, (st.clock + l, covered_quiet st regular free, omega arith))
 
   closing_after : (cs : List Call) (st : RunState S) → Closing st → Closing (after_all step goes cs st)

@@ -1,13 +1,13 @@
 -- By earliest deadline no job is missed: before each time ahead the supply still owes the work that is due by then, in
 -- every state, as long as the table's demand is met. Assumes nothing.
-use Rattle.std.proofs.Common.{◌≡◌, ℕ, suc, ◌+◌, ◌-◌, ◌<◌, ◌≤◌, Bool, true, false, cond, eqb, leb, ◌⊎◌, List, [], ◌∷◌, map, Some, None, Option, sym, refl, ap, ◌∙◌, subst, inl, inr, ⊎_elim, arith}
-use Rattle.std.specs.List.{AllByRecursion as All}
+use Rattle.std.proofs.Common.{◌≡◌, ℕ, suc, ◌+◌, ◌-◌, ◌<◌, ◌≤◌, Bool, true, false, cond, eqb, leb, ◌⊎◌, List, [], ◌∷◌, map, Some, None, Option, sym, refl, ap, ◌∙◌, subst, inl, inr, ⊎_elim, sum_by, arith}
+use Rattle.std.specs.List.{AllByRecursion}
 use Rattle.std.proofs.lemmas.Bool.{cases_lt, eqb-true, le-leb, lt-leb}
 use Rattle.supply.specs.declared.grant.Grant.{Grant}
 use Rattle.supply.specs.declared.grant.Grant.TheVariants as grant
 use Rattle.supply.specs.Grants.{spent}
 use Rattle.table.specs.declared.row.Row.{Row}
-use Rattle.table.specs.Sums.{total, demand, row_at}
+use Rattle.table.specs.Sums.{demand, row_at}
 use Rattle.decision.specs.Decisions.{DemandMet}
 use Rattle.dispatch.specs.declared.call.Call.{Call}
 use Rattle.dispatch.specs.declared.call.Call.TheVariants as call
@@ -18,29 +18,29 @@ use Rattle.dispatch.specs.Ticks.{Goes, first, served, late, missed}
 use Rattle.dispatch.specs.Runs.{RunState, fresh, with_rows, release_answer, end_answer, credited, tick_answer, passed, after}
 use Rattle.dispatch.specs.Orderly.{Orderly, OrderlyJob}
 use Rattle.dispatch.specs.Promises.{KeepsTime}
-use Rattle.dispatch.proofs.Lists.{total_le}
+use Rattle.dispatch.proofs.Lists.{sum_by_le_where}
 use Rattle.dispatch.proofs.Chosen.{chosen_at}
 use Rattle.dispatch.proofs.Accepted.{unless_refused_both}
 use Rattle.dispatch.proofs.Keeping.{orderly_at, orderly_served}
 use Rattle.dispatch.proofs.Rows.{table_rows, rows_new}
 use Rattle.soundness.proofs.Lawful.{Lawful}
-use Rattle.soundness.proofs.Weights.{wanted, work_due, asked, total_later, total-struck, total_cleared, total-released, total-worked, total_counted, total_quiet}
+use Rattle.soundness.proofs.Weights.{wanted, work_due, asked, sum_by_later, sum_by-struck, sum_by_cleared, sum_by-released, sum_by-worked, sum_by_counted, sum_by_quiet}
 use Rattle.soundness.proofs.Orders.{ByDeadline, From, chosen_from_all}
 use Rattle.soundness.proofs.Regular.{Regular, row_is, due_at, chosen_orderly, spends, regular_after, regular_fresh}
 use Rattle.soundness.proofs.Timing.{Young, Unmissed, in_time, keeps_time}
 
 -- the work of these rows that is due by d, from this clock on
 abbrev due_by : ℕ → ℕ → List RowState → ℕ
-due_by d clock rows = total (asked (work_due d) clock) rows
+due_by d clock rows = sum_by (asked (work_due d) clock) rows
 
 -- a job that is due after d wants nothing by then
 later_wanted : (d n : ℕ) → d < n → (o : Option Active) → From (λ j. j.deadline) n o → wanted (work_due d).counts o ≡ 0
 later_wanted d n lt None from = refl
 later_wanted d n lt (Some a) from = ap (λ b. cond b (a.cost - a.ran) 0) (lt-leb a.job.deadline d (omega arith))
 
-quiet_due : (d n clock : ℕ) → d < n → (rows : List RowState) → All (λ r. From (λ j. j.deadline) n r.active) rows → due_by d clock rows ≤ demand (table_rows rows) (d - clock)
+quiet_due : (d n clock : ℕ) → d < n → (rows : List RowState) → AllByRecursion (λ r. From (λ j. j.deadline) n r.active) rows → due_by d clock rows ≤ demand (table_rows rows) (d - clock)
 unfolding demand
-quiet_due d n clock lt rows from = total_quiet (work_due d) (λ r. From (λ j. j.deadline) n r.active) (λ r q. later_wanted d n lt r.active q) clock rows from
+quiet_due d n clock lt rows from = sum_by_quiet (work_due d) (λ r. From (λ j. j.deadline) n r.active) (λ r q. later_wanted d n lt r.active q) clock rows from
 
 -- a granted tick runs a job that is due by d, or none of these is pending
 served_due : (goes : Goes) → ByDeadline goes → (clock d : ℕ) (rows : List RowState) → Orderly clock 1 rows → (g : Grant) (p : Option Active) → first goes rows ≡ p
@@ -54,8 +54,8 @@ served_due goes early clock d rows orderly grant.Granted (Some a) is =
     ⊎_elim
     (λ after-d.
     let from = chosen_from_all (λ j. j.deadline) goes early a.job.deadline rows (subst (From (λ j. j.deadline) a.job.deadline) (sym is) (omega arith)) in
-    inr (omega (arith, quiet_due d a.job.deadline (clock + 1) after-d rows from, total-worked (work_due d) (clock + 1) k a rows at)))
-    (λ by-d. inl (total_counted (work_due d) clock k a (le-leb a.job.deadline d by-d) (chosen_orderly goes clock rows a orderly is).6 rows at))
+    inr (omega (arith, quiet_due d a.job.deadline (clock + 1) after-d rows from, sum_by-worked (work_due d) (clock + 1) k a rows at)))
+    (λ by-d. inl (sum_by_counted (work_due d) clock k a (le-leb a.job.deadline d by-d) (chosen_orderly goes clock rows a orderly is).6 rows at))
     (cases_lt d a.job.deadline)
 
 -- a job that is struck off wants work by then
@@ -74,7 +74,7 @@ late-wanted clock (Some a) live = by (eqb a.job.deadline clock) refl
         subst (λ b. 1 ≤ cond b (a.cost - a.ran) 0) (sym now-due) (omega arith)
     by false test = omega arith
 
-all_live : (clock i : ℕ) (rows : List RowState) → Orderly clock i rows → All (λ r. Live r.active) rows
+all_live : (clock i : ℕ) (rows : List RowState) → Orderly clock i rows → AllByRecursion (λ r. Live r.active) rows
 all_live clock i [] orderly = tt
 all_live clock i (r ∷ rows) orderly = (own r.active orderly.0, all_live clock (suc i) rows orderly.1)
   where
@@ -84,7 +84,7 @@ all_live clock i (r ∷ rows) orderly = (own r.active orderly.0, all_live clock 
 
 missed_due : (clock i : ℕ) (rows : List RowState) → Orderly clock i rows → missed (clock + 1) rows ≤ due_by (clock + 1) (clock + 1) rows
 missed_due clock i rows orderly =
-    total_le (λ r. Live r.active) (λ r. late (clock + 1) r.active) (asked (work_due (clock + 1)) (clock + 1))
+    sum_by_le_where (λ r. Live r.active) (λ r. late (clock + 1) r.active) (asked (work_due (clock + 1)) (clock + 1))
     (λ r live. omega (arith, late-wanted (clock + 1) r.active live)) rows (all_live clock i rows orderly)
 
 -- before each time ahead the supply owes the work that is due by then
@@ -105,7 +105,7 @@ module _ {S : Type 0} (bound floor : S → ℕ → ℕ) (step : S → Bool → (
       let t : ℕ = d - (st.clock + 1) in
       let same = ap (λ rs. demand rs t) timely.regular.table in
       ⊎_elim
-      (λ less. omega (arith, timely.owes d lt, spends bound floor step laws goes st.supply offer st.clock d lt, total_later (work_due d) st.clock (st.clock + 1) (omega arith) (credited step goes offer st)))
+      (λ less. omega (arith, timely.owes d lt, spends bound floor step laws goes st.supply offer st.clock d lt, sum_by_later (work_due d) st.clock (st.clock + 1) (omega arith) (credited step goes offer st)))
       (λ none. omega (arith, met t, timely.regular.promised t, laws.lasting st.supply offer t, laws.covered later t))
       (served_due goes early st.clock d st.rows timely.regular.orderly (step st.supply offer).0 (first goes st.rows) refl)
 
@@ -122,15 +122,15 @@ module _ {S : Type 0} (bound floor : S → ℕ → ℕ) (step : S → Bool → (
   owes_after : (c : Call) (st : RunState S) → Timely bound floor rs B st → Owes floor (after step goes c st)
   owes_after (call.Release i) st timely =
       unless_refused_both (Owes floor) (release_answer i st) (with_rows st (change (released i st.clock) (i - 1) st.rows)) st
-      (λ x is d lt. omega (arith, timely.owes d lt, total-released (work_due d) i st.clock (i - 1) lt st.rows (due_at i st x is)))
+      (λ x is d lt. omega (arith, timely.owes d lt, sum_by-released (work_due d) i st.clock (i - 1) lt st.rows (due_at i st x is)))
       timely.owes
   owes_after (call.End i) st timely =
       unless_refused_both (Owes floor) (end_answer i st) (with_rows st (change cleared (i - 1) st.rows)) st
-      (λ age is d lt. omega (arith, timely.owes d lt, total_cleared (work_due d) st.clock (i - 1) st.rows))
+      (λ age is d lt. omega (arith, timely.owes d lt, sum_by_cleared (work_due d) st.clock (i - 1) st.rows))
       timely.owes
   owes_after (call.Tick offer) st timely =
       unless_refused_both (Owes floor) (tick_answer step goes offer st) (passed step goes offer st) st
-      (λ t is d lt. omega (arith, credited_owes offer st timely d (omega arith), total-struck (work_due d) (st.clock + 1) (st.clock + 1) (credited step goes offer st)))
+      (λ t is d lt. omega (arith, credited_owes offer st timely d (omega arith), sum_by-struck (work_due d) (st.clock + 1) (st.clock + 1) (credited step goes offer st)))
       timely.owes
   owes_after call.Look st timely = timely.owes
   owes_after (call.Pending room) st timely = timely.owes
@@ -145,7 +145,7 @@ timely_young bound floor rs B st timely k lt a has =
     let own = subst (OrderlyJob st.clock (k + 1) (state_at st.rows k)) has (orderly_at st.clock st.rows timely.regular.orderly k lt) in
     omega (arith, own.1, own.4, ap (λ (r : Row). r.deadline) (row_is st.rows rs timely.regular.table k lt))
 
-new_from : (n : ℕ) (rs : List Row) → All (λ r. From (λ j. j.deadline) n r.active) (map new_row rs)
+new_from : (n : ℕ) (rs : List Row) → AllByRecursion (λ r. From (λ j. j.deadline) n r.active) (map new_row rs)
 new_from n [] = tt
 new_from n (r ∷ rs) = (tt, new_from n rs)
 

@@ -1,7 +1,7 @@
 -- The pending job of row i ends in time by fixed priority: what each call does to the time by which it ends. Assumes
 -- nothing.
 use Rattle.std.proofs.Common.{◌≡◌, ℕ, ◌+◌, ◌-◌, ◌<◌, ◌≤◌, eqb, ltb, ◌⊎◌, List, length, take, Some, None, Option, sym, refl, ap, ◌∙◌, subst, inl, inr, ⊎_elim, arith}
-use Rattle.std.specs.List.{AllByRecursion as All}
+use Rattle.std.specs.List.{AllByRecursion}
 use Rattle.std.proofs.lemmas.List.{get_or-map}
 use Rattle.std.proofs.lemmas.Bool.{cases_lt, cases_eq, cases_order, cond_both, eqb-true, ltb-true}
 use Rattle.supply.specs.declared.grant.Grant.{Grant}
@@ -23,16 +23,16 @@ use Rattle.soundness.proofs.Room.{load, load-struck, load_past, load-cleared, lo
 -- a tick in the order of the rows
 
 -- no job of a row before the chosen one is pending
-chosen_from_row : (goes : Goes) → ByRow goes → (rows : List RowState) (a : Active) → first goes rows ≡ Some a → All (λ r. From (λ j. j.row) a.job.row r.active) rows
+chosen_from_row : (goes : Goes) → ByRow goes → (rows : List RowState) (a : Active) → first goes rows ≡ Some a → AllByRecursion (λ r. From (λ j. j.row) a.job.row r.active) rows
 chosen_from_row goes by rows a is = chosen_from_all (λ j. j.row) goes by a.job.row rows (subst (From (λ j. j.row) a.job.row) (sym is) (omega arith))
 
 -- none at all is pending where none is chosen
-none_from_row : (goes : Goes) → ByRow goes → (rows : List RowState) (n : ℕ) → first goes rows ≡ None → All (λ r. From (λ j. j.row) n r.active) rows
+none_from_row : (goes : Goes) → ByRow goes → (rows : List RowState) (n : ℕ) → first goes rows ≡ None → AllByRecursion (λ r. From (λ j. j.row) n r.active) rows
 none_from_row goes by rows n is = chosen_from_all (λ j. j.row) goes by n rows (subst (From (λ j. j.row) n) (sym is) tt)
 
 -- a granted tick runs a job of a row before row i, or none of these is pending
 pub served-load : (goes : Goes) → ByRow goes → (i clock : ℕ) (rows : List RowState) → Orderly clock 1 rows → (g : Grant) (p : Option Active) → first goes rows ≡ p
-    → ((e : ℕ) → load i e clock (served g p rows) + spent g ≤ load i e clock rows) ⊎ All Free (take i rows)
+    → ((e : ℕ) → load i e clock (served g p rows) + spent g ≤ load i e clock rows) ⊎ AllByRecursion Free (take i rows)
 served-load goes by i clock rows orderly grant.Withheld p is = inl (λ e. omega arith)
 served-load goes by i clock rows orderly grant.Granted None is = inr (free_before clock 1 (i + 1) i rows (omega arith) orderly (none_from_row goes by rows (i + 1) is))
 served-load goes by i clock rows orderly grant.Granted (Some a) is =

@@ -1,6 +1,6 @@
 -- Orders of jobs that follow a number of each job, and what the chosen job then says of the others. Assumes nothing.
 use Rattle.std.proofs.Common.{◌≡◌, ℕ, zero, suc, ◌+◌, ◌<◌, ◌≤◌, Bool, true, false, cond, List, [], ◌∷◌, length, take, Some, None, Option, sym, refl, ap, ◌∙◌, arith}
-use Rattle.std.specs.List.{AllByRecursion as All}
+use Rattle.std.specs.List.{AllByRecursion}
 use Rattle.std.proofs.lemmas.List.{length-take, get_or-take}
 use Rattle.dispatch.specs.declared.job.Job.{Job}
 use Rattle.dispatch.specs.declared.job.Active.{Active}
@@ -39,14 +39,14 @@ module _ (key : Job → ℕ) (goes : Goes) (by : By key goes) (n : ℕ) where
       either false test from = (omega (arith, (by a.job b.job).1 test), from)
 
   -- where the chosen job has a number of at least n, so has every pending job
-  pub chosen_from_all : (rows : List RowState) → From key n (first goes rows) → All (λ r. From key n r.active) rows
+  pub chosen_from_all : (rows : List RowState) → From key n (first goes rows) → AllByRecursion (λ r. From key n r.active) rows
   chosen_from_all [] from = tt
   chosen_from_all (r ∷ rows) from =
       let both = sooner_from r.active (first goes rows) from in
       (both.0, chosen_from_all rows both.1)
 
 -- rows that are numbered from i on, with no job of a row below n, are free before n
-pub free_before : (clock i n m : ℕ) (rows : List RowState) → i + m ≤ n → Orderly clock i rows → All (λ r. From (λ j. j.row) n r.active) rows → All Free (take m rows)
+pub free_before : (clock i n m : ℕ) (rows : List RowState) → i + m ≤ n → Orderly clock i rows → AllByRecursion (λ r. From (λ j. j.row) n r.active) rows → AllByRecursion Free (take m rows)
 free_before clock i n zero rows le orderly from = tt
 free_before clock i n (suc m) [] le orderly from = tt
 free_before clock i n (suc m) (r ∷ rows) le orderly from =
@@ -57,7 +57,7 @@ free_before clock i n (suc m) (r ∷ rows) le orderly from =
     here (Some a) own at_least_lem = absurd (omega (arith, own.0))
 
 -- the same at a place
-pub free_at_before : (clock n k : ℕ) (rows : List RowState) → k < length rows → k + 1 < n → Orderly clock 1 rows → All (λ r. From (λ j. j.row) n r.active) rows
+pub free_at_before : (clock n k : ℕ) (rows : List RowState) → k < length rows → k + 1 < n → Orderly clock 1 rows → AllByRecursion (λ r. From (λ j. j.row) n r.active) rows
     → (state_at rows k).active ≡ None
 free_at_before clock n k rows lt below orderly from =
     let free = free_before clock 1 n (k + 1) rows (omega arith) orderly from in

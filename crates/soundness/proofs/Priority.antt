@@ -1,7 +1,7 @@
 -- By fixed priority no job is missed and none ends older than its row's response: in every state each row has room for
 -- a job yet to come, and its pending job ends in time. Assumes nothing.
 use Rattle.std.proofs.Common.{◌≡◌, ℕ, zero, suc, ◌+◌, ◌-◌, ◌<◌, ◌≤◌, Bool, List, [], ◌∷◌, map, length, get_or, take, None, Ok, sym, refl, ap, ◌∙◌, subst, ⊎_elim, arith}
-use Rattle.std.specs.List.{AllByRecursion as All}
+use Rattle.std.specs.List.{AllByRecursion}
 use Rattle.supply.specs.declared.grant.Grant.{Grant}
 use Rattle.table.specs.declared.row.Row.{Row}
 use Rattle.table.specs.Sums.{requested, row_at}
@@ -17,7 +17,7 @@ use Rattle.dispatch.proofs.Chosen.{Free}
 use Rattle.dispatch.proofs.Accepted.{unless_refused_both}
 use Rattle.dispatch.proofs.Rows.{length-served, rows_new}
 use Rattle.soundness.proofs.Lawful.{Lawful}
-use Rattle.soundness.proofs.Sums.{total_zero}
+use Rattle.soundness.proofs.Sums.{sum_by_zero}
 use Rattle.soundness.proofs.Orders.{ByRow}
 use Rattle.soundness.proofs.Regular.{Regular, rows_length, row_is, due_at, spends, regular_after, regular_fresh}
 use Rattle.soundness.proofs.Timing.{Young, Unmissed, in_time, keeps_time}
@@ -136,7 +136,7 @@ module _ {S : Type 0} (bound floor : S → ℕ → ℕ) (step : S → Bool → (
 
   pub responsive_unmissed : (st : RunState S) → Responsive bound floor rs B R st → Unmissed step goes st
   responsive_unmissed st responsive offer =
-      total_zero (λ r. late (st.clock + 1) r.active) no_state (credited step goes offer st)
+      sum_by_zero (λ r. late (st.clock + 1) r.active) no_state (credited step goes offer st)
       (λ k lt.
       let mid : List RowState = credited step goes offer st in
       ends_late floor k (R k) (step st.supply offer).1 (st.clock + 1) mid (state_at mid k).active (credited_end offer st responsive k (omega (arith, credited-length offer st responsive))))
@@ -146,7 +146,7 @@ module _ {S : Type 0} (bound floor : S → ℕ → ℕ) (step : S → Bool → (
       let ends = subst (Ends floor k (R k) st.supply st.clock st.rows) has (responsive.all_end k (omega (arith, rows_length st.rows rs responsive.regular.table))) in
       omega (arith, ends.1.1, ends.1.2)
 
-new_free : (i : ℕ) (rs : List Row) → All Free (take i (map new_row rs))
+new_free : (i : ℕ) (rs : List Row) → AllByRecursion Free (take i (map new_row rs))
 new_free zero rs = tt
 new_free (suc i) [] = tt
 new_free (suc i) (r ∷ rs) = (refl, new_free i rs)

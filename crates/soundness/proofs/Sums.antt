@@ -1,29 +1,36 @@
 -- Sums over a list of which one element is changed, and over its front. Assumes nothing.
-use Rattle.std.proofs.Common.{◌≡◌, ℕ, zero, suc, ◌+◌, ◌<◌, ◌≤◌, List, [], ◌∷◌, length, get_or, take, refl, ap, arith}
+use Rattle.std.proofs.Common.{◌≡◌, ℕ, zero, suc, ◌+◌, ◌<◌, ◌≤◌, List, [], ◌∷◌, length, get_or, take, refl, ap, sum_by, arith}
+use Rattle.std.proofs.lemmas.List.Sums.{sum_by-cons}
+use Rattle.table.specs.declared.row.Row.{Row}
 use Rattle.table.specs.Sums.{total}
 use Rattle.dispatch.specs.Jobs.{change}
 use Rattle.dispatch.proofs.Lists.{At}
 
--- where the changed element weighs less by m, so does the list
-pub total_change_at : {A : Type 0} (Q : A → Type 0) (f : A → ℕ) (g : A → A) (m : ℕ) → ((x : A) → Q x → f (g x) + m ≤ f x)
-    → (i : ℕ) (xs : List A) → At Q i xs → total f (change g i xs) + m ≤ total f xs
+-- the sum over the rows of a table is the sum over a list
+pub total-sum_by : (f : Row → ℕ) (rs : List Row) → total f rs ≡ sum_by f rs
 unfolding total
-total_change_at Q f g m less i [] at = absurd at
-total_change_at Q f g m less zero (x ∷ xs) at = omega (arith, less x at)
-total_change_at Q f g m less (suc i) (x ∷ xs) at = omega (arith, total_change_at Q f g m less i xs at)
+total-sum_by f [] = refl
+total-sum_by f (r ∷ rs) = omega (arith, sum_by-cons f r rs, total-sum_by f rs)
+
+-- where the changed element weighs less by m, so does the list
+pub sum_by_change_at : {A : Type 0} (Q : A → Type 0) (f : A → ℕ) (g : A → A) (m : ℕ) → ((x : A) → Q x → f (g x) + m ≤ f x)
+    → (i : ℕ) (xs : List A) → At Q i xs → sum_by f (change g i xs) + m ≤ sum_by f xs
+sum_by_change_at Q f g m less i [] at = absurd at
+sum_by_change_at Q f g m less zero (x ∷ xs) at = omega (arith, sum_by-cons f x xs, sum_by-cons f (g x) xs, less x at)
+sum_by_change_at Q f g m less (suc i) (x ∷ xs) at =
+    omega (arith, sum_by-cons f x xs, sum_by-cons f x (change g i xs), sum_by_change_at Q f g m less i xs at)
 
 -- where no element weighs more by the change, neither does the list
-pub total_change_any : {A : Type 0} (f : A → ℕ) (g : A → A) → ((x : A) → f (g x) ≤ f x) → (i : ℕ) (xs : List A) → total f (change g i xs) ≤ total f xs
-unfolding total
-total_change_any f g less i [] = omega arith
-total_change_any f g less zero (x ∷ xs) = omega (arith, less x)
-total_change_any f g less (suc i) (x ∷ xs) = omega (arith, total_change_any f g less i xs)
+pub sum_by_change_any : {A : Type 0} (f : A → ℕ) (g : A → A) → ((x : A) → f (g x) ≤ f x) → (i : ℕ) (xs : List A) → sum_by f (change g i xs) ≤ sum_by f xs
+sum_by_change_any f g less i [] = omega arith
+sum_by_change_any f g less zero (x ∷ xs) = omega (arith, sum_by-cons f x xs, sum_by-cons f (g x) xs, less x)
+sum_by_change_any f g less (suc i) (x ∷ xs) = omega (arith, sum_by-cons f x xs, sum_by-cons f x (change g i xs), sum_by_change_any f g less i xs)
 
 -- where each element weighs nothing, so does the list
-pub total_zero : {A : Type 0} (f : A → ℕ) (d : A) (xs : List A) → ((k : ℕ) → k < length xs → f (get_or xs k d) ≡ 0) → total f xs ≡ 0
-unfolding total
-total_zero f d [] none = refl
-total_zero f d (x ∷ xs) none = omega (arith, none 0 (omega arith), total_zero f d xs (λ k lt. none (suc k) (omega arith)))
+pub sum_by_zero : {A : Type 0} (f : A → ℕ) (d : A) (xs : List A) → ((k : ℕ) → k < length xs → f (get_or xs k d) ≡ 0) → sum_by f xs ≡ 0
+sum_by_zero f d [] none = refl
+sum_by_zero f d (x ∷ xs) none =
+    omega (arith, sum_by-cons f x xs, none 0 (omega arith), sum_by_zero f d xs (λ k lt. none (suc k) (omega arith)))
 
 -- the front of a list with one element changed
 

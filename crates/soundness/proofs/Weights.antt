@@ -1,21 +1,21 @@
 -- What rows may still ask of a supply before a time e: the work of the pending jobs that count, and that of releases to
 -- come. What is asked never rises, and falls by each tick that runs a job that counts. Assumes nothing.
-use Rattle.std.proofs.Common.{◌≡◌, ℕ, ◌+◌, ◌-◌, ◌<◌, ◌≤◌, max, Bool, true, false, cond, eqb, ltb, leb, List, Some, None, Option, sym, refl, ap, subst, arith}
-use Rattle.std.specs.List.{AllByRecursion as All}
+use Rattle.std.proofs.Common.{◌≡◌, ℕ, ◌+◌, ◌-◌, ◌<◌, ◌≤◌, max, Bool, true, false, cond, eqb, ltb, leb, List, Some, None, Option, sym, refl, ap, subst, sum_by, arith}
+use Rattle.std.specs.List.{AllByRecursion}
+use Rattle.std.proofs.lemmas.List.Sums.{sum_by-le-sum_by}
 use Rattle.std.proofs.lemmas.Bool.{ltb-true, leb-true, cond_both}
 use Rattle.table.specs.declared.row.Row.{Row}
 use Rattle.table.specs.Sums.{total}
-use Rattle.table.proofs.Totals.{total_mono}
 use Rattle.table.proofs.Counts.{released_work, due_work, released_mono, due_mono, released_next, due_next}
 use Rattle.dispatch.specs.declared.job.Job.{Job}
 use Rattle.dispatch.specs.declared.job.Active.{Active}
 use Rattle.dispatch.specs.declared.job.RowState.{RowState}
 use Rattle.dispatch.specs.Jobs.{with_active, change, new_job, released, cleared}
 use Rattle.dispatch.specs.Ticks.{worked, kept, struck}
-use Rattle.dispatch.proofs.Lists.{At, total-map, total_le}
+use Rattle.dispatch.proofs.Lists.{At, sum_by-map, sum_by_le_where}
 use Rattle.dispatch.proofs.Chosen.{Has}
 use Rattle.dispatch.proofs.Rows.{table_rows}
-use Rattle.soundness.proofs.Sums.{total_change_at, total_change_any}
+use Rattle.soundness.proofs.Sums.{total-sum_by, sum_by_change_at, sum_by_change_any}
 
 -- the ticks that a job still wants
 abbrev pub remaining : Active → ℕ
@@ -111,40 +111,41 @@ module _ {e : ℕ} (w : Weight e) where
 
   -- several rows
 
-  pub total_later : (c d : ℕ) → c ≤ d → (rows : List RowState) → total (asked d) rows ≤ total (asked c) rows
-  total_later c d le rows = total_mono (asked d) (asked c) (asked_later c d le) rows
+  pub sum_by_later : (c d : ℕ) → c ≤ d → (rows : List RowState) → sum_by (asked d) rows ≤ sum_by (asked c) rows
+  sum_by_later c d le rows = sum_by-le-sum_by (asked d) (asked c) rows (asked_later c d le)
 
-  pub total-struck : (c d : ℕ) (rows : List RowState) → total (asked c) (struck d rows) ≤ total (asked c) rows
-  total-struck c d rows =
+  pub sum_by-struck : (c d : ℕ) (rows : List RowState) → sum_by (asked c) (struck d rows) ≤ sum_by (asked c) rows
+  sum_by-struck c d rows =
       omega (
         arith,
-        total-map (asked c) (λ r. with_active (kept d r.active) r) rows,
-        total_mono (λ r. asked c (with_active (kept d r.active) r)) (asked c) (λ r. omega (arith, kept-wanted w.counts d r.active)) rows,
+        sum_by-map (asked c) (λ r. with_active (kept d r.active) r) rows,
+        sum_by-le-sum_by (λ r. asked c (with_active (kept d r.active) r)) (asked c) rows (λ r. omega (arith, kept-wanted w.counts d r.active)),
       )
 
-  pub total_cleared : (c k : ℕ) (rows : List RowState) → total (asked c) (change cleared k rows) ≤ total (asked c) rows
-  total_cleared c k rows = total_change_any (asked c) cleared (λ r. omega arith) k rows
+  pub sum_by_cleared : (c k : ℕ) (rows : List RowState) → sum_by (asked c) (change cleared k rows) ≤ sum_by (asked c) rows
+  sum_by_cleared c k rows = sum_by_change_any (asked c) cleared (λ r. omega arith) k rows
 
-  pub total-released : (i c k : ℕ) → c < e → (rows : List RowState) → At (λ r. r.next ≤ c) k rows → total (asked c) (change (released i c) k rows) ≤ total (asked c) rows
-  total-released i c k lt rows at =
-      omega (arith, total_change_at (λ r. r.next ≤ c) (asked c) (released i c) 0 (λ r due. omega (arith, asked-released i c lt r due)) k rows at)
+  pub sum_by-released : (i c k : ℕ) → c < e → (rows : List RowState) → At (λ r. r.next ≤ c) k rows → sum_by (asked c) (change (released i c) k rows) ≤ sum_by (asked c) rows
+  sum_by-released i c k lt rows at =
+      omega (arith, sum_by_change_at (λ r. r.next ≤ c) (asked c) (released i c) 0 (λ r due. omega (arith, asked-released i c lt r due)) k rows at)
 
-  pub total-worked : (c k : ℕ) (a : Active) (rows : List RowState) → At (Has a) k rows → total (asked c) (change (with_active (worked a)) k rows) ≤ total (asked c) rows
-  total-worked c k a rows at =
-      omega (arith, total_change_at (Has a) (asked c) (with_active (worked a)) 0 (λ r has. omega (arith, asked-worked c a r has)) k rows at)
+  pub sum_by-worked : (c k : ℕ) (a : Active) (rows : List RowState) → At (Has a) k rows → sum_by (asked c) (change (with_active (worked a)) k rows) ≤ sum_by (asked c) rows
+  sum_by-worked c k a rows at =
+      omega (arith, sum_by_change_at (Has a) (asked c) (with_active (worked a)) 0 (λ r has. omega (arith, asked-worked c a r has)) k rows at)
 
-  pub total_counted : (c k : ℕ) (a : Active) → w.counts a.job ≡ true → a.ran < a.cost → (rows : List RowState) → At (Has a) k rows
-      → total (asked c) (change (with_active (worked a)) k rows) + 1 ≤ total (asked c) rows
-  total_counted c k a is lt rows at =
-      total_change_at (Has a) (asked c) (with_active (worked a)) 1 (asked_counted c a is lt) k rows at
+  pub sum_by_counted : (c k : ℕ) (a : Active) → w.counts a.job ≡ true → a.ran < a.cost → (rows : List RowState) → At (Has a) k rows
+      → sum_by (asked c) (change (with_active (worked a)) k rows) + 1 ≤ sum_by (asked c) rows
+  sum_by_counted c k a is lt rows at =
+      sum_by_change_at (Has a) (asked c) (with_active (worked a)) 1 (asked_counted c a is lt) k rows at
 
   -- where none that counts is pending, nothing is asked for but what can be released
-  pub total_quiet : (Q : RowState → Type 0) → ((r : RowState) → Q r → wanted w.counts r.active ≡ 0)
-      → (c : ℕ) (rows : List RowState) → All Q rows → total (asked c) rows ≤ total (w.future (e - c)) (table_rows rows)
-  total_quiet Q none c rows all =
+  pub sum_by_quiet : (Q : RowState → Type 0) → ((r : RowState) → Q r → wanted w.counts r.active ≡ 0)
+      → (c : ℕ) (rows : List RowState) → AllByRecursion Q rows → sum_by (asked c) rows ≤ total (w.future (e - c)) (table_rows rows)
+  sum_by_quiet Q none c rows all =
       omega (
         arith,
-        total-map (w.future (e - c)) (λ (r : RowState). r.row) rows,
-        total_le Q (asked c) (λ r. w.future (e - c) r.row)
+        total-sum_by (w.future (e - c)) (table_rows rows),
+        sum_by-map (w.future (e - c)) (λ (r : RowState). r.row) rows,
+        sum_by_le_where Q (asked c) (λ r. w.future (e - c) r.row)
             (λ r q. omega (arith, none r q, w.rising (e - max c r.next) (e - c) (omega arith) r.row)) rows all,
       )

@@ -14,10 +14,10 @@ pub returns-in_err-push : goal.returns-in_err-push
 returns-in_err-push g c =
     record {
       replies = search rules;
-      accepted-table-misses-no-job = search rules;
+      accepted_table_misses_no_job = search rules;
       busy_window_ends = c.new-run.ensures.busy_window_ends;
-      no-job-is-lost-or-made-up = search rules;
-      counters-tell-the-ticks = search rules;
+      no_job_is_lost_or_made_up = search rules;
+      counters_tell_the_ticks = search rules;
     }
 
 pub loop-i-preserved : goal.loop-i-preserved
@@ -53,8 +53,8 @@ returns g c =
     ∙ ap (replies step goes cs) c.new-run.ensures.state in
     record {
       replies = all;
-      accepted-table-misses-no-job = λ a accepted. subst (Each (InTime (g.O.Order.limit c.args.order rs a)) cs) (sym all) (c.new-run.ensures.accepted-table-misses-no-job a accepted cs);
+      accepted_table_misses_no_job = λ a accepted. subst (Each (InTime (g.O.Order.limit c.args.order rs a)) cs) (sym all) (c.new-run.ensures.accepted_table_misses_no_job a accepted cs);
       busy_window_ends = c.new-run.ensures.busy_window_ends;
-      no-job-is-lost-or-made-up = subst (λ xs. Conserved xs (after_all step goes cs start)) (sym all) (conserved step goes rs c.args.supply cs);
-      counters-tell-the-ticks = subst (λ xs. Counted xs (after_all step goes cs start)) (sym all) (counted step goes rs c.args.supply cs);
+      no_job_is_lost_or_made_up = subst (λ xs. Conserved xs (after_all step goes cs start)) (sym all) (conserved step goes rs c.args.supply cs);
+      counters_tell_the_ticks = subst (λ xs. Counted xs (after_all step goes cs start)) (sym all) (counted step goes rs c.args.supply cs);
     }

@@ -17,7 +17,7 @@ const LAST_CLOCK: u32 = 4_000_000_000;
 impl Dispatcher {
     // The job to run in a tick that was granted or withheld: the pending job that goes first, if it was granted.
     pub(crate) fn chosen<O: Order>(&self, grant: Grant, order: &O) -> Option<Active>
-        ensures { result ≡ if_granted grant (first (goes_by keyed before order.now) (jobs_state self.now).rows) }
+        ensures { result ≡ if_granted grant (first (goes_by O.keyed O.before order.now) (jobs_state self.now).rows) }
     {
         match grant {
             Grant::Withheld => None,

@@ -25,8 +25,8 @@ impl<S: Supply, O: Order> Run<S, O> {
     pub fn new(table: &Table, supply: S, order: O) -> Run<S, O>
         ensures state { state_of result ≡ fresh (rows_of table.now) supply }
         ensures order { result.order ≡ order }
-        ensures accepted_table_misses_no_job { (a : O.Accepted) → tested order (rows_of table.now) (bound supply) (Ok a) → KeepsTime step (goes_by keyed before order) (rows_of table.now) supply (limit order (rows_of table.now) a) }
-        ensures busy_window_ends { (l : ℕ) → Window (rows_of table.now) (bound supply) l → QuietWithin step (goes_by keyed before order) l (fresh (rows_of table.now) supply) }
+        ensures accepted_table_misses_no_job { (a : O.Accepted) → O.tested order (rows_of table.now) (S.bound supply) (Ok a) → KeepsTime S.step (goes_by O.keyed O.before order) (rows_of table.now) supply (O.limit order (rows_of table.now) a) }
+        ensures busy_window_ends { (l : ℕ) → Window (rows_of table.now) (S.bound supply) l → QuietWithin S.step (goes_by O.keyed O.before order) l (fresh (rows_of table.now) supply) }
     {
         order.accepted_table_misses_no_job(&supply);
         Run {
@@ -62,11 +62,11 @@ impl<S: Supply, O: Order> Run<S, O> {
     // Passes one tick with the host's offer: the supply is ticked; if it grants, the first job runs; the clock rises; and
     // the jobs that are due then are struck off as missed. Refused with 54 at the last clock.
     pub fn tick(&mut self, offer: bool) -> Result<Ticked, Fault>
-        ensures answer { result ≡ tick_answer step (goes_by keyed before self.old.order) offer (state_of self.old) }
-        ensures state { state_of self.new ≡ after_tick step (goes_by keyed before self.old.order) offer (state_of self.old) }
+        ensures answer { result ≡ tick_answer S.step (goes_by O.keyed O.before self.old.order) offer (state_of self.old) }
+        ensures state { state_of self.new ≡ after_tick S.step (goes_by O.keyed O.before self.old.order) offer (state_of self.old) }
         ensures order { self.new.order ≡ self.old.order }
         ensures refused { is_ok result ≡ false → self.new ≡ self.old }
-        ensures first { IfOk result (λ t. FollowsOrder (goes_by keyed before self.old.order) (jobs_of (state_of self.old).rows) t.progress) }
+        ensures first { IfOk result (λ t. FollowsOrder (goes_by O.keyed O.before self.old.order) (jobs_of (state_of self.old).rows) t.progress) }
         ensures lives { IfOk result (λ t. JobsLive ((state_of self.old).clock + 1) t.progress (state_of self.old).rows (state_of self.new).rows) }
         ensures withheld { IfOk result (λ t. t.progress ≡ Progress.Withheld → NoWork (state_of self.old).rows (state_of self.new).rows) }
     {

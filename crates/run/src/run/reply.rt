@@ -12,8 +12,8 @@ use supply::Supply;
 impl<S: Supply, O: Order> Run<S, O> {
     // Carries out the call and replies; a list of pending jobs is only counted.
     pub fn reply(&mut self, call: Call) -> Reply
-        ensures reply { result ≡ reply step (goes_by keyed before self.old.order) call (state_of self.old) }
-        ensures state { state_of self.new ≡ after step (goes_by keyed before self.old.order) call (state_of self.old) }
+        ensures reply { result ≡ reply S.step (goes_by O.keyed O.before self.old.order) call (state_of self.old) }
+        ensures state { state_of self.new ≡ after S.step (goes_by O.keyed O.before self.old.order) call (state_of self.old) }
         ensures order { self.new.order ≡ self.old.order }
     {
         match call {

@@ -1,4 +1,4 @@
-use Rattle.std.proofs.Common.{◌≡◌, ap, ◌∙◌}
+use Rattle.std.proofs.Common.{ap, ◌∙◌}
 use Rattle.table.specs.Tables.{rows_of}
 use Rattle.supply.specs.Server.{server_step}
 use Rattle.dispatch.specs.Runs.{fresh, replies}
@@ -12,5 +12,5 @@ returns c =
     let told = c.in_ok-replay.ensures in (
       reserved.0,
       told.replies ∙ ap (λ s. replies server_step by_deadline c.args.calls.now (fresh rs s)) reserved.1,
-      told.accepted-table-misses-no-job c.in_ok-test.field-0 c.in_ok-test.ensures,
+      told.accepted_table_misses_no_job c.in_ok-test.field-0 c.in_ok-test.ensures,
     )

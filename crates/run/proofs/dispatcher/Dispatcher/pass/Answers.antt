@@ -15,19 +15,13 @@ pass-ticked-requires c =
       chosen = chosen_servable d.clock d.rows.count rows c.args.grant c.args.chosen (length_front d.rows.count d.rows.states d.whole d.few) (orderly_out d.clock 1 rows d.orderly) c.requires.first;
     }
 
-pub invariant-of-self : goal.invariant-of-self
-invariant-of-self c =
+pub invariant_of-self : goal.invariant_of-self
+invariant_of-self c =
     let d = c.args.self.now in
-    let rows = held d.rows in (
-      c.pass-ticked.ensures.whole,
-      (
-        omega (arith, c.pass-ticked.ensures.count),
-        (
-          omega (arith, c.requires.early),
-          (
-            ∣ subst (Orderly (d.clock + 1) 1) (sym c.pass-ticked.ensures.rows) (chosen_orderly d.clock rows c.args.grant c.args.chosen (orderly_out d.clock 1 rows d.orderly) c.requires.first) ∣₁,
-            (omega (arith, c.and-self.ensures.granted, granted_little c.pass-ticked.result.progress), tt),
-          ),
-        ),
-      ),
-    )
+    let rows = held d.rows in record {
+      whole = c.pass-ticked.ensures.whole;
+      few = omega (arith, c.pass-ticked.ensures.count);
+      early = omega (arith, c.requires.early);
+      orderly = ∣ subst (Orderly (d.clock + 1) 1) (sym c.pass-ticked.ensures.rows) (chosen_orderly d.clock rows c.args.grant c.args.chosen (orderly_out d.clock 1 rows d.orderly) c.requires.first) ∣₁;
+      fewer = omega (arith, c.and-self.ensures.granted, granted_little c.pass-ticked.result.progress);
+    }

@@ -5,24 +5,18 @@ use Rattle.run.proofs.Held.{length_front}
 use Rattle.run.proofs.Calls.{release_accepts, release_leaves, release_orderly, release_job}
 use Rattle.run.proofs.dispatcher.Dispatcher.release.Goals as goal
 
-pub invariant-of-self : goal.invariant-of-self
-invariant-of-self c =
+pub invariant_of-self : goal.invariant_of-self
+invariant_of-self c =
     let d = c.args.self.now in
     let st = jobs_state d in
-    let long = length_front d.rows.count d.rows.states d.whole d.few in (
-      c.put.ensures.whole,
-      (
-        omega (arith, c.put.ensures.count),
-        (
-          omega arith,
-          (
-            ∣ release_orderly st c.args.row c.in_ok-place.place d.rows.count long c.in_ok-place.ensures c.at-state.result c.released-released.result (held c.put.new.self)
-                c.at-state.ensures c.released-released.ensures c.put.ensures.rows (orderly_out d.clock 1 st.rows d.orderly) ∣₁,
-            (omega arith, tt),
-          ),
-        ),
-      ),
-    )
+    let long = length_front d.rows.count d.rows.states d.whole d.few in record {
+      whole = c.put.ensures.whole;
+      few = omega (arith, c.put.ensures.count);
+      early = omega arith;
+      orderly = ∣ release_orderly st c.args.row c.in_ok-place.place d.rows.count long c.in_ok-place.ensures c.at-state.result c.released-released.result (held c.put.new.self)
+          c.at-state.ensures c.released-released.ensures c.put.ensures.rows (orderly_out d.clock 1 st.rows d.orderly) ∣₁;
+      fewer = omega arith;
+    }
 
 pub returns : goal.returns
 returns c =

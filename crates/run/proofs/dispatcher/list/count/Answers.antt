@@ -21,4 +21,4 @@ loop-i-preserved c =
     let k = c.loop-i.i - 1 in
     let lt : k < length c.args.rows.now = omega arith in
     let next : c.loop-i.i ≡ k + 1 = omega arith in
-    (omega (arith, c.loop-i.invariant.0, jobs_counted k c.loop-i.i c.args.rows.now c.index-rows-i.result lt next _ c.in-default.is), omega (arith, c.loop-i.invariant.1))
+    (omega (arith, c.loop-i.invariant.0, jobs_counted k c.loop-i.i c.args.rows.now c.index-rows-i.result lt next _ c.in_default.is), omega (arith, c.loop-i.invariant.1))

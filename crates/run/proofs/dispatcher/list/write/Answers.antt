@@ -46,7 +46,7 @@ loop-i-preserved c =
     let list = c.args.list.now in
     let lt : k < length rows = omega arith in
     let next : c.loop-i.i ≡ k + 1 = omega arith in
-    let down = jobs_down k c.loop-i.i rows c.index-rows-i.result lt next _ c.in-default.is in (
+    let down = jobs_down k c.loop-i.i rows c.index-rows-i.result lt next _ c.in_default.is in (
       omega (arith, c.loop-i.invariant.0, ap length down),
       c.loop-i.invariant.1 ∙ ap (λ js. take c.loop-i.n list ++ (js ++ drop c.args.needed list)) (sym down),
     )

@@ -8,10 +8,10 @@ loop-i-preserved c =
     let states = c.loop-i.states in
     let i = c.loop-i.i in
     let rows = c.rows-rows.result.now in (
-      length-set states i c.never-released.result ∙ c.loop-i.invariant.0,
-      take_more_set states i c.never-released.result (omega arith)
-          ∙ ap (λ zs. zs ++ c.never-released.result ∷ []) c.loop-i.invariant.1
-          ∙ ap (λ x. map new_row (take i rows) ++ x ∷ []) c.never-released.ensures
+      length-set states i c.never_released.result ∙ c.loop-i.invariant.0,
+      take_more_set states i c.never_released.result (omega arith)
+          ∙ ap (λ zs. zs ++ c.never_released.result ∷ []) c.loop-i.invariant.1
+          ∙ ap (λ x. map new_row (take i rows) ++ x ∷ []) c.never_released.ensures
           ∙ ap (λ x. map new_row (take i rows) ++ new_row x ∷ []) c.index-rows-i.is
           ∙ sym (map_more new_row rows i c.index-rows-i.result c.loop-i-test.true),
     )

@@ -11,7 +11,7 @@ returns g c =
     record {
       state = search rules;
       order = search rules;
-      accepted-table-misses-no-job = c.accepted-table-misses-no-job.ensures (rows_of c.args.table.now);
+      accepted_table_misses_no_job = c.accepted_table_misses_no_job.ensures (rows_of c.args.table.now);
       busy_window_ends = busy_window_ends supply.bound supply.floor supply.step (record { empty = met.empty; covered = met.covered; lasting = met.lasting; spending = met.spending })
           (goes_by g.O.Order.keyed g.O.Order.before c.args.order) (rows_of c.args.table.now) c.args.supply;
     }

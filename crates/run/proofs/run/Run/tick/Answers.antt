@@ -27,7 +27,7 @@ returns g c =
     let passed-so = ap (with_supply c.tick-grant.new.self) c.pass.ensures.state ∙ passed_is step goes offer st grant chosen granted first c.tick-grant.new.self c.tick-grant.ensures.state in
     let told = ap (λ (t : Ticked). t.progress) ticked-so in
     let left = ap (λ s. s.rows) passed-so in
-    let early = may_tick d.clock c.in_ok-may-tick.ensures in
+    let early = may_tick d.clock c.in_ok-may_tick.ensures in
     record {
       answer = ap Ok ticked-so ∙ sym (answer_early step goes offer st early);
       state = passed-so ∙ sym (after_early step goes offer st early);
