@@ -36,8 +36,8 @@ fn a_fixing_gets_its_responses(rt: HostRuntime) -> Result<(), Fail> {
     let mut out = [0u8; 425];
     let told = report(&text[0..written], &mut out)?;
     assert!(rt; told == 150);
-    assert!(rt; &out[0..50] == b"       0       5       0\n       1      16      30\n");
-    assert!(rt; &out[125..150] == b"       5     376     500\n");
+    assert!(rt; &out[0..50] == b"       0       5       0\n       1      16      30\n".as_slice());
+    assert!(rt; &out[125..150] == b"       5     376     500\n".as_slice());
     Ok(())
 }
 
