@@ -10,12 +10,12 @@ use Rattle.fault.specs.Steps.{map_ok}
 use Rattle.text.specs.declared.triple.Triple.{Triple}
 use Rattle.text.specs.Fields.{Reads, field_read}
 use Rattle.text.specs.Texts.{Fitting, line_of, text_of}
-use Rattle.text.specs.Reading.{field_at, field_bytes, line_read, lines_read, text_read, whole_lines}
+use Rattle.text.specs.Reading.{field_at, field_bytes, line_read, lines_read, order_checked, table_read, text_read, whole_lines}
 use Rattle.text.specs.Places.{FirstMisspelt, MisspeltLine, MisspeltRefusal}
 use Rattle.text.proofs.Fields.{reads_field}
 use Rattle.text.proofs.Parts.{line_spells, spelt}
 use Rattle.text.proofs.Spellings.{whole_parts}
-use Rattle.text.proofs.Steps.{no_answer, stopped, was_none, was_some}
+use Rattle.text.proofs.Steps.{failed, no_answer, stopped, was_none, was_some}
 
 -- the field j of a line is a number's text
 abbrev Number : List ℕ → ℕ → Type 0
@@ -112,7 +112,20 @@ text_first bs f h for_line =
     absurd (other (fault_of Text 11 0 0) f same (λ e. omega arith) (λ e. omega arith) for_line))
     (cases_Bool (whole_lines (length bs)))
 
+table_first : (bs : List ℕ) (f : Fault) → table_read bs ≡ Err f → ForLine f → FirstMisspelt bs f
+table_first bs f h for_line =
+    ⊎_elim (λ text. text_first bs f text for_line)
+    (λ past. ⊎_elim
+    (λ order. absurd (other (fault_of Text 14 1 1) f (failed _ tt (fault_of Text 14 1 1) f order).1 (λ e. omega arith) (λ e. omega arith) for_line))
+    (λ all. absurd (no_answer _ f (sym all.2)))
+    (stopped (order_checked past.0) _ f past.2))
+    (stopped (text_read bs) _ f h)
+
 -- however the triples are held
 pub text_misspelt : {X : Type 0} (held : X → List Triple) (bs : List ℕ) (r : Result X Fault) → map_ok held r ≡ text_read bs → MisspeltRefusal bs r
 text_misspelt held bs (Ok x) value = tt
 text_misspelt held bs (Err f) value = text_first bs f (sym value)
+
+pub table_misspelt : {X : Type 0} (held : X → List Triple) (bs : List ℕ) (r : Result X Fault) → map_ok held r ≡ table_read bs → MisspeltRefusal bs r
+table_misspelt held bs (Ok x) value = tt
+table_misspelt held bs (Err f) value = table_first bs f (sym value)

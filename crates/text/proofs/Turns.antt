@@ -15,6 +15,14 @@ behind done rest = and_then rest (λ ts. Ok (done ++ ts))
 abbrev pub lines_from : ℕ → List ℕ → ℕ → Result (List Triple) Fault
 lines_from n bs i = lines_read (n - i) (drop (25 * i) bs) (i + 1)
 
+behind_none : (rest : Result (List Triple) Fault) → behind [] rest ≡ rest
+behind_none (Ok ts) = refl
+behind_none (Err f) = refl
+
+-- no line is done
+pub lines_none : (n : ℕ) (bs : List ℕ) → behind [] (lines_from n bs 0) ≡ lines_read n bs 1
+lines_none n bs = behind_none (lines_from n bs 0) ∙ ap (λ k. lines_read k bs 1) (omega arith)
+
 lines_from_more : (n i : ℕ) (bs : List ℕ) → i < n → lines_from n bs i ≡ and_then (line_read (take 25 (drop (25 * i) bs)) (i + 1)) (λ t. and_then (lines_from n bs (i + 1)) (λ ts. Ok (t ∷ ts)))
 lines_from_more n i bs low =
     let left : n - i ≡ suc (n - (i + 1)) = omega arith in
@@ -52,7 +60,12 @@ checked_more ts i d low =
     ap (λ us. triples_checked us (i + 1)) (drop_more ts i d low) ∙
     ap (λ k. and_then (triple_checked (get_or ts i d) (i + 1)) (λ _. triples_checked (drop (i + 1) ts) k)) (sym (add-one (i + 1)))
 
--- the triple at i is refused
+-- the triple at i passes
+pub triple_more : (ts : List Triple) (i : ℕ) (d : Triple) → i < length ts → Ok tt ≡ triple_checked (get_or ts i d) (i + 1) → triples_checked (drop i ts) (i + 1) ≡ triples_checked ts 1 → triples_checked (drop (i + 1) ts) (i + 1 + 1) ≡ triples_checked ts 1
+triple_more ts i d low fits so =
+    ap (λ (r : Result Unit Fault). and_then r (λ _. triples_checked (drop (i + 1) ts) (i + 1 + 1))) fits ∙ sym (checked_more ts i d low) ∙ so
+
+-- it is refused
 pub triple_fault : (ts : List Triple) (i : ℕ) (d : Triple) (f : Fault) → i < length ts → Err f ≡ triple_checked (get_or ts i d) (i + 1) → triples_checked (drop i ts) (i + 1) ≡ triples_checked ts 1 → Err f ≡ triples_checked ts 1
 triple_fault ts i d f low refused so =
     ap (λ (r : Result Unit Fault). and_then r (λ _. triples_checked (drop (i + 1) ts) (i + 1 + 1))) refused ∙ sym (checked_more ts i d low) ∙ so

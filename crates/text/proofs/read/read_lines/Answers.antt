@@ -10,7 +10,7 @@ use Rattle.text.specs.Reading.{line_read, text_read, whole_lines}
 use Rattle.text.proofs.Misspelt.{text_misspelt}
 use Rattle.text.proofs.Refusals.{text_printable, view_printable}
 use Rattle.text.proofs.Spellings.{text_read_whole, told_text}
-use Rattle.text.proofs.Turns.{behind, line_fault, line_more, lines_all, lines_from}
+use Rattle.text.proofs.Turns.{behind, line_fault, line_more, lines_all, lines_from, lines_none}
 use Rattle.text.proofs.read.read_lines.Goals as goal
 use Rattle.text.proofs.read.read_lines.Goals.{then-text-eq0-via-then-text-eq0, then-text-eq0-via-else-text-eq0+then-text-ne0, then-text-eq0-via-else-text-eq0+else-text-ne0+then-text-gt-LONGEST}
 
@@ -28,6 +28,12 @@ returns-then-text-eq0 c =
     let value = sym (cond-false _ _ _ not) in
     record { value = value; spells = told_text bs _ (sym value); misspelt = text_misspelt triples_of bs (Err _) value; small = (omega arith, omega arith, omega arith) }
 
+pub loop-i-init : goal.loop-i-init
+loop-i-init c =
+    let bs = c.args.text.now in
+    let none : triples_of c.new-lines.result ≡ [] = c.new-lines.ensures in
+    (ap length none, ap (λ ts. behind ts (lines_from (length bs / 25) bs 0)) none ∙ lines_none (length bs / 25) bs)
+
 -- the fault of a line is the text's
 pub returns-in_err-triple : goal.returns-in_err-triple
 returns-in_err-triple c =
@@ -40,6 +46,10 @@ returns-in_err-triple c =
     ap (map_ok triples_of) (p.1 ∙ ap (λ f. Err f) p.2) ∙ line_fault (length bs / 25) i bs (triples_of c.loop-i.lines) _ c.loop-i-test.true read c.loop-i.invariant.1 ∙
     sym (text_read_whole bs (omega arith) c.if-text-ne0.false c.if-text-gt-LONGEST.false) in
     record { value = value; spells = told_text bs _ (sym value); misspelt = text_misspelt triples_of bs c.from_residual.result value; small = view_printable triples_of c.from_residual.result _ value (text_printable bs) }
+
+-- there is room for every line
+pub returns-in_err-push : goal.returns-in_err-push
+returns-in_err-push c = absurd (omega (arith, c.in_err-push.ensures.0, c.loop-i.invariant.0))
 
 pub loop-i-preserved : goal.loop-i-preserved
 loop-i-preserved c =

@@ -6,7 +6,7 @@ use Rattle.std.proofs.lemmas.Bool.{cond-false, cond-true, le-ltb, lt-ltb}
 use Rattle.std.proofs.lemmas.Bool.Decides.{nat_tests}
 use Rattle.text.specs.Writing.{few_lines, lines_checked, triples_checked}
 use Rattle.text.proofs.Checks.{checked_numbers}
-use Rattle.text.proofs.Turns.{triple_fault}
+use Rattle.text.proofs.Turns.{triple_fault, triple_more}
 use Rattle.text.proofs.write.check_lines.Goals as goal
 
 pub returns-then-room-lt-LONGEST : goal.returns-then-room-lt-LONGEST
@@ -27,6 +27,9 @@ returns-in_err-check_triple c =
     let p = err_from_is_err_and c.from_residual.result c.from_residual.ensures.1 in
     p.1 ∙ ap (λ f. Err f) p.2 ∙ triple_fault ts c.loop-i.i _ _ c.loop-i-test.true c.in_err-check_triple.ensures c.loop-i.invariant ∙
     sym (checked_numbers ts c.args.room c.if-room-lt-LONGEST.false (omega arith) c.if-triples-gt-MOST_LINES.false)
+
+pub loop-i-preserved : goal.loop-i-preserved
+loop-i-preserved c = triple_more c.args.triples.now c.loop-i.i _ c.loop-i-test.true c.in_ok-check_triple.ensures c.loop-i.invariant
 
 pub returns : goal.returns
 returns c =
