@@ -1,6 +1,7 @@
 #!/usr/bin/env bash
 # Checks what the program fixing says in words: on every text under tables/ and on some that are refused, it writes
-# what stands in tests/words/. Run after `bash tools/build.sh`; with --write it writes tests/words/ anew, to be read and kept.
+# what stands in tests/words/. Run after `bash tools/build.sh`; with --write it writes tests/words/ anew, to be read and
+# kept.
 #
 # Prints a line for each check and then `N passed, M failed`; status 1 where a check failed.
 set -u
