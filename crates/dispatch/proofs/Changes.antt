@@ -1,14 +1,14 @@
--- What an accepted release and an accepted end change, and that no row has two jobs. Assumes nothing.
+-- What an accepted release changes, and that no row has two jobs. Assumes nothing.
 use Rattle.std.proofs.Common.{◌≡◌, ℕ, suc, ◌-◌, ◌<◌, ◌≤◌, ◌⊎◌, List, [], ◌∷◌, length, Some, None, Ok, Option, sym, refl, ap, ◌∙◌, subst, inl, inr, ⊎_elim, arith}
 use Rattle.dispatch.specs.declared.job.Job.{Job}
 use Rattle.dispatch.specs.declared.job.Active.{Active}
 use Rattle.dispatch.specs.declared.job.RowState.{RowState}
-use Rattle.dispatch.specs.Jobs.{no_state, change, released, cleared, and_job, jobs_of}
+use Rattle.dispatch.specs.Jobs.{no_state, change, released, and_job, jobs_of}
 use Rattle.dispatch.specs.Orderly.{Orderly, OrderlyJob}
-use Rattle.dispatch.specs.Laws.{Among, OneEach, OthersStay, MakesJob, RemovesJob}
-use Rattle.dispatch.specs.Runs.{RunState, with_rows, unless_refused, release_answer, after_release, end_answer, after_end}
+use Rattle.dispatch.specs.Laws.{Among, OneEach, OthersStay, MakesJob}
+use Rattle.dispatch.specs.Runs.{RunState, with_rows, unless_refused, release_answer, after_release}
 use Rattle.dispatch.proofs.Lists.{get_or-change_same, get_or-change_other}
-use Rattle.dispatch.proofs.Accepted.{release_accepted, end_accepted}
+use Rattle.dispatch.proofs.Accepted.{release_accepted}
 use Rattle.dispatch.proofs.Keeping.{free_at}
 
 change_others : (f : RowState → RowState) (i : ℕ) (rows : List RowState) → 1 ≤ i → OthersStay i rows (change f (i - 1) rows)
@@ -24,16 +24,6 @@ module _ {S : Type 0} (i : ℕ) (st : RunState S) where
         free_at st.clock st.rows orderly (i - 1) lt w.2,
         ap (λ (r : RowState). r.active) (get_or-change_same (released i st.clock) no_state (i - 1) st.rows lt),
         change_others (released i st.clock) i st.rows w.0,
-      )
-
-  pub end_removes : (age : ℕ) → end_answer i st ≡ Ok age → RemovesJob i st.rows (after_end i st).rows
-  end_removes age accepted =
-      let w = end_accepted i st age accepted in
-      let lt : i - 1 < length st.rows = omega arith in
-      let rows = ap (λ r. (unless_refused r (with_rows st (change cleared (i - 1) st.rows)) st).rows) accepted in
-      subst (RemovesJob i st.rows) (sym rows) (
-        ap (λ (r : RowState). r.active) (get_or-change_same cleared no_state (i - 1) st.rows lt),
-        change_others cleared i st.rows w.0,
       )
 
 -- a job among those of the rows numbered from i on is the first row's, or has a later row

@@ -1,5 +1,4 @@
--- Lists with one element changed or with every element mapped: what holds at a place and of each element, and sums.
--- Assumes nothing.
+-- Lists with one element changed or with every element mapped: what holds at a place, and sums. Assumes nothing.
 use Rattle.std.proofs.Common.{◌≡◌, ℕ, zero, suc, ◌+◌, ◌<◌, ◌≤◌, List, [], ◌∷◌, map, length, get_or, set, refl, ap, ◌∙◌, sum_by, arith}
 use Rattle.std.proofs.lemmas.List.Sums.{sum_by-cons}
 use Rattle.std.specs.List.{AllByRecursion}
@@ -33,12 +32,6 @@ module _ {A : Type 0} where
   at_of_all P i [] lt all = absurd (omega arith)
   at_of_all P zero (x ∷ xs) lt all = all.0
   at_of_all P (suc i) (x ∷ xs) lt all = at_of_all P i xs (omega arith) all.1
-
-  -- what holds of each element
-
-  pub all_map : (P R : A → Type 0) (g : A → A) → ((x : A) → P x → R (g x)) → (xs : List A) → AllByRecursion P xs → AllByRecursion R (map g xs)
-  all_map P R g new [] all = tt
-  all_map P R g new (x ∷ xs) all = (new x all.0, all_map P R g new xs all.1)
 
   -- lengths and elements
 

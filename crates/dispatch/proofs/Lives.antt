@@ -8,13 +8,13 @@ use Rattle.supply.specs.declared.grant.Grant.TheVariants as grant
 use Rattle.dispatch.specs.declared.job.Active.{Active}
 use Rattle.dispatch.specs.declared.job.RowState.{RowState}
 use Rattle.dispatch.specs.declared.reply.Progress.{Progress}
-use Rattle.dispatch.specs.declared.reply.Progress.TheVariants.{Withheld, Ran, Ended}
+use Rattle.dispatch.specs.declared.reply.Progress.TheVariants.{Ran, Ended}
 use Rattle.dispatch.specs.Progresses.{progress_row}
 use Rattle.dispatch.specs.Jobs.{no_state, state_at, with_active, change}
 use Rattle.dispatch.specs.Ticks.{Goes, first, worked, served, progress, kept, struck}
 use Rattle.dispatch.specs.Runs.{RunState, credited, progressed, passed}
 use Rattle.dispatch.specs.Orderly.{Orderly, OrderlyJob}
-use Rattle.dispatch.specs.Laws.{work_of, Passes, Lives, JobsLive, NoWork}
+use Rattle.dispatch.specs.Laws.{work_of, Passes, Lives, JobsLive}
 use Rattle.dispatch.proofs.Lists.{get_or-change_same, get_or-change_other}
 use Rattle.dispatch.proofs.Chosen.{chosen_row}
 use Rattle.dispatch.proofs.Keeping.{orderly_at}
@@ -96,30 +96,3 @@ jobs_live step goes offer st orderly k lt =
     ap (λ (r : RowState). r.active) (get_or-map (λ (r : RowState). with_active (kept (st.clock + 1) r.active) r) (credited step goes offer st) k no_state no_state there) in
     subst (Lives (k + 1) (st.clock + 1) (progressed step goes offer st) (state_at st.rows k).active) (sym after)
     (lives_served goes st.clock st.rows orderly k lt g (first goes st.rows) refl)
-
--- a withheld tick
-
-kept_some : (c : ℕ) (o : Option Active) (a : Active) → kept c o ≡ Some a → o ≡ Some a
-kept_some c None a e = e
-kept_some c (Some b) a e = by (eqb b.job.deadline c) e
-  where
-    by : (t : Bool) → cond t None (Some b) ≡ Some a → Some b ≡ Some a
-    by true e = let z : ◌≡◌ {A = ℕ} 0 1 = cc in absurd (omega arith)
-    by false e = e
-
-withheld_served : (g : Grant) (chosen : Option Active) (c : ℕ) (rows : List RowState) → progress g chosen c ≡ Withheld → served g chosen rows ≡ rows
-withheld_served grant.Withheld chosen c rows e = refl
-withheld_served grant.Granted None c rows e = refl
-withheld_served grant.Granted (Some a) c rows e = by (ltb (a.ran + 1) a.cost) e
-  where
-    by : (t : Bool) → cond t (Ran a.job.row) (Ended a.job.row (c - a.job.release)) ≡ Withheld → served grant.Granted (Some a) rows ≡ rows
-    by true e = let z : ◌≡◌ {A = ℕ} 0 1 = cc in absurd (omega arith)
-    by false e = let z : ◌≡◌ {A = ℕ} 0 1 = cc in absurd (omega arith)
-
-pub withheld_no_work : {S : Type 0} (step : S → Bool → (Grant × S)) (goes : Goes) (offer : Bool) (st : RunState S) → progressed step goes offer st ≡ Withheld
-    → NoWork st.rows (passed step goes offer st).rows
-withheld_no_work step goes offer st e k a lt has =
-    let c : ℕ = st.clock + 1 in
-    let rows = ap (struck c) (withheld_served (step st.supply offer).0 (first goes st.rows) c st.rows e) in
-    let at = ap (λ (r : RowState). r.active) (get_or-map (λ r. with_active (kept c r.active) r) st.rows k no_state no_state lt) in
-    kept_some c (state_at st.rows k).active a (sym at ∙ sym (ap (λ rs. (state_at rs k).active) rows) ∙ has)

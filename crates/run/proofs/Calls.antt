@@ -9,9 +9,9 @@ use Rattle.dispatch.specs.declared.job.RowState.{RowState}
 use Rattle.dispatch.specs.Jobs.{state_at, no_state, change, released, cleared}
 use Rattle.dispatch.specs.Orderly.{OrderlyJob, Orderly}
 use Rattle.dispatch.specs.Runs.{RunState, with_rows, unless_refused, place_of, admit, age_of, release_answer, after_release, end_answer, after_end}
-use Rattle.dispatch.specs.Laws.{MakesJob, RemovesJob}
+use Rattle.dispatch.specs.Laws.{MakesJob}
 use Rattle.dispatch.proofs.Accepted.{place_there}
-use Rattle.dispatch.proofs.Changes.{release_makes, end_removes}
+use Rattle.dispatch.proofs.Changes.{release_makes}
 use Rattle.dispatch.proofs.Keeping.{orderly_at, orderly_released, orderly_cleared}
 use Rattle.dispatch.proofs.Lists.{change_set}
 
@@ -74,10 +74,6 @@ module _ {S : Type 0} (st : RunState S) (i k n : ℕ) (long : length st.rows ≡
     pub end_orderly : (y : RowState) (now : List RowState) → y ≡ cleared x → now ≡ set st.rows k y → Orderly st.clock 1 st.rows → Orderly st.clock 1 now
     end_orderly y now so put orderly =
         subst (Orderly st.clock 1) (sym (written cleared now x y at so put)) (orderly_cleared st.clock (i - 1) st.rows orderly)
-
-    pub end_job : (y : RowState) (now : List RowState) → y ≡ cleared x → now ≡ set st.rows k y → RemovesJob i st.rows now
-    end_job y now so put =
-        subst (RemovesJob i st.rows) (sym (ap (λ (s : RunState S). s.rows) (end_leaves y now so put))) (end_removes i st (st.clock - a.job.release) (sym end_accepts))
 
     pub end_released : Orderly st.clock 1 st.rows → a.job.release ≤ st.clock
     end_released orderly =

@@ -2,6 +2,5 @@ pub mod Held
 pub mod Served
 pub mod Struck
 pub mod Calls
-pub mod First
 pub mod Passed
 pub mod Listed

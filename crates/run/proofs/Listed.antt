@@ -1,13 +1,10 @@
 -- Listing the pending jobs, as the code does it, from the last row to the first. Assumes nothing.
-use Rattle.std.proofs.Common.{◌≡◌, ℕ, zero, suc, ◌+◌, ◌<◌, ◌≤◌, Bool, true, false, cond, leb, List, [], ◌∷◌, ◌++◌, length, get_or, take, drop, set, Some, None, Ok, Err, Option, sym, refl, ap, ◌∙◌, arith}
+use Rattle.std.proofs.Common.{◌≡◌, ℕ, zero, suc, ◌+◌, ◌<◌, ◌≤◌, List, [], ◌∷◌, ◌++◌, length, get_or, take, drop, set, Some, None, Option, sym, refl, ap, ◌∙◌, arith}
 use Rattle.std.proofs.lemmas.List.{drop_more}
-use Rattle.fault.specs.declared.Layer.TheVariants as layer
-use Rattle.fault.specs.Layers.{fault_of}
 use Rattle.dispatch.specs.declared.job.Job.{Job}
 use Rattle.dispatch.specs.declared.job.Active.{Active}
 use Rattle.dispatch.specs.declared.job.RowState.{RowState}
 use Rattle.dispatch.specs.Jobs.{and_job, jobs_of}
-use Rattle.dispatch.specs.Runs.{RunState, pending_answer}
 
 more_jobs : (o : Option Active) (js : List Job) → length js ≤ length (and_job o js)
 more_jobs None js = omega arith
@@ -46,11 +43,3 @@ one_job (Some a) js = omega arith
 pub jobs_few : (rows : List RowState) → length (jobs_of rows) ≤ length rows
 jobs_few [] = omega arith
 jobs_few (r ∷ rows) = omega (arith, one_job r.active (jobs_of rows), jobs_few rows)
-
--- where there is room, the answer is the number of jobs
-pub room_found : {S : Type 0} (room n : ℕ) (st : RunState S) → Ok n ≡ pending_answer room st → length (jobs_of st.rows) ≡ n
-room_found room n st is = by (leb (length (jobs_of st.rows)) room) is
-  where
-    by : (b : Bool) → Ok n ≡ cond b (Ok (length (jobs_of st.rows))) (Err (fault_of layer.Run 55 (length (jobs_of st.rows)) room)) → length (jobs_of st.rows) ≡ n
-    by true e = cc
-    by false e = cc

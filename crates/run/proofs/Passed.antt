@@ -1,8 +1,5 @@
 -- A tick of the job that goes first. Assumes nothing.
-use Rattle.std.proofs.Common.{◌≡◌, ℕ, ◌+◌, ◌-◌, ◌≤◌, Bool, true, false, cond, ltb, List, length, IfSome, Some, None, Ok, Err, Option, Result, sym, refl, ap, ◌∙◌, subst, ap₂, arith}
-use Rattle.fault.specs.declared.Fault.{Fault}
-use Rattle.fault.specs.declared.Layer.TheVariants as layer
-use Rattle.fault.specs.Layers.{fault_of}
+use Rattle.std.proofs.Common.{◌≡◌, ℕ, ◌+◌, ◌-◌, ◌≤◌, Bool, List, length, IfSome, Some, None, Option, sym, refl, ap, ◌∙◌, subst, ap₂, arith}
 use Rattle.supply.specs.declared.grant.Grant.{Grant}
 use Rattle.supply.specs.declared.grant.Grant.TheVariants as grant
 use Rattle.dispatch.specs.declared.job.Active.{Active}
@@ -12,11 +9,11 @@ use Rattle.dispatch.specs.declared.reply.Progress.TheVariants.{Withheld, Idle, R
 use Rattle.dispatch.specs.Progresses.{granted_one, ran_one, idle_one}
 use Rattle.dispatch.specs.Jobs.{state_at}
 use Rattle.dispatch.specs.Ticks.{Goes, first, served, progress, struck, missed, lowest}
-use Rattle.dispatch.specs.Runs.{RunState, unless_refused, last_clock, credited, progressed, ticked, tick_answer, passed, after_tick}
+use Rattle.dispatch.specs.Runs.{RunState, credited, progressed, ticked, passed}
 use Rattle.dispatch.specs.Orderly.{OrderlyJob, Orderly}
 use Rattle.dispatch.proofs.Chosen.{chosen_row}
 use Rattle.dispatch.proofs.Keeping.{orderly_at, orderly_passed}
-use Rattle.run.specs.Holding.{ticked_by, passed_by, in_time_to_tick}
+use Rattle.run.specs.Holding.{ticked_by, passed_by}
 use Rattle.run.specs.Serving.{Servable, if_granted}
 
 -- the job to run goes first by some order
@@ -83,19 +80,3 @@ module _ {S : Type 0} (step : S → Bool → (Grant × S)) (goes : Goes) (offer 
         ran = st.ran + ran_one p;
         idle = st.idle + idle_one p;
       }) progress_is credited_is
-
--- before the last clock a tick is not refused
-
-pub may_tick : (clock : ℕ) → Ok tt ≡ in_time_to_tick clock → ltb clock last_clock ≡ true
-may_tick clock is = by (ltb clock last_clock) is
-  where
-    by : (b : Bool) → ◌≡◌ {A = Result (Unit {0}) Fault} (Ok tt) (cond b (Ok tt) (Err (fault_of layer.Run 54 0 0))) → b ≡ true
-    by true e = refl
-    by false e = cc
-
-module _ {S : Type 0} (step : S → Bool → (Grant × S)) (goes : Goes) (offer : Bool) (st : RunState S) (early : ltb st.clock last_clock ≡ true) where
-  pub answer_early : tick_answer step goes offer st ≡ Ok (ticked step goes offer st)
-  answer_early = ap (λ b. cond b (Ok (ticked step goes offer st)) (Err (fault_of layer.Run 54 0 0))) early
-
-  pub after_early : after_tick step goes offer st ≡ passed step goes offer st
-  after_early = ap (λ r. unless_refused r (passed step goes offer st) st) answer_early

@@ -4,9 +4,8 @@ use Rattle.supply.specs.declared.grant.Grant.{Grant}
 use Rattle.supply.specs.declared.grant.Grant.TheVariants.{Granted}
 use Rattle.dispatch.specs.declared.job.Active.{Active}
 use Rattle.dispatch.specs.declared.job.RowState.{RowState}
-use Rattle.dispatch.specs.declared.reply.Progress.TheVariants.{Ran, Ended}
 use Rattle.dispatch.specs.Jobs.{with_active}
-use Rattle.dispatch.specs.Ticks.{worked, served, progress}
+use Rattle.dispatch.specs.Ticks.{worked, served}
 use Rattle.dispatch.proofs.Lists.{change_set}
 use Rattle.run.specs.Serving.{Servable}
 
@@ -25,21 +24,12 @@ module _ (rows : List RowState) (clock : ℕ) (a : Active) (g : Grant) (chosen :
       ∙ change_set (with_active (worked a)) rows (a.job.row - 1) x (omega arith) at
       ∙ subst₂ (λ h p. served Granted (Some a) rows ≡ served h p rows) (sym granted) (sym is) refl
 
-  told : progress Granted (Some a) clock ≡ progress g chosen clock
-  told = subst₂ (λ h p. progress Granted (Some a) clock ≡ progress h p clock) (sym granted) (sym is) refl
-
   -- it still wants ticks
   module _ (more : a.ran + 1 < a.cost) (x : RowState) (at : x ≡ get_or rows (a.job.row - 1) x) where
     pub ran_rows : set rows (a.job.row - 1) (with_active (Some (record { job = a.job; cost = a.cost; ran = a.ran + 1 })) (get_or rows (a.job.row - 1) x)) ≡ served g chosen rows
     ran_rows = written x at _ (ap (λ b. cond b (Some (record { job = a.job; cost = a.cost; ran = a.ran + 1 })) None) (sym (lt-ltb (a.ran + 1) a.cost more)))
 
-    pub ran_told : Ran a.job.row ≡ progress g chosen clock
-    ran_told = ap (λ b. cond b (Ran a.job.row) (Ended a.job.row (clock - a.job.release))) (sym (lt-ltb (a.ran + 1) a.cost more)) ∙ told
-
   -- it has had its C ticks
   module _ (done : a.cost ≤ a.ran + 1) (x : RowState) (at : x ≡ get_or rows (a.job.row - 1) x) where
     pub ended_rows : set rows (a.job.row - 1) (with_active None (get_or rows (a.job.row - 1) x)) ≡ served g chosen rows
     ended_rows = written x at None (ap (λ b. cond b (Some (record { job = a.job; cost = a.cost; ran = a.ran + 1 })) None) (sym (le-ltb (a.ran + 1) a.cost done)))
-
-    pub ended_told : Ended a.job.row (clock - a.job.release) ≡ progress g chosen clock
-    ended_told = ap (λ b. cond b (Ran a.job.row) (Ended a.job.row (clock - a.job.release))) (sym (le-ltb (a.ran + 1) a.cost done)) ∙ told

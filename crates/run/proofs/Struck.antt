@@ -8,7 +8,7 @@ use Rattle.dispatch.specs.Jobs.{with_active}
 use Rattle.dispatch.specs.Ticks.{kept, late, missed, lowest_of, lowest, struck}
 use Rattle.run.specs.Serving.{struck_row}
 
--- a row that is struck counts as one and is told; one that is not counts for nothing
+-- a row that is struck counts as one and is told
 pub struck_some : (clock row further : ℕ) (o : Option Active) → Some row ≡ struck_row clock o → (late clock o ≡ 1) × (lowest_of clock o further ≡ row)
 struck_some clock row further None e = let z : ◌≡◌ {A = ℕ} 0 1 = cc in absurd (omega arith)
 struck_some clock row further (Some a) e = by (eqb a.job.deadline clock) e
@@ -16,14 +16,6 @@ struck_some clock row further (Some a) e = by (eqb a.job.deadline clock) e
     by : (b : Bool) → Some row ≡ cond b (Some a.job.row) None → (◌≡◌ {A = ℕ} (cond b 1 0) 1) × (cond b a.job.row further ≡ row)
     by true e = (refl, cc)
     by false e = let z : ◌≡◌ {A = ℕ} 0 1 = cc in absurd (omega arith)
-
-pub struck_none : (clock further : ℕ) (o : Option Active) → None ≡ struck_row clock o → (late clock o ≡ 0) × (lowest_of clock o further ≡ further)
-struck_none clock further None e = (refl, refl)
-struck_none clock further (Some a) e = by (eqb a.job.deadline clock) e
-  where
-    by : (b : Bool) → None ≡ cond b (Some a.job.row) None → (◌≡◌ {A = ℕ} (cond b 1 0) 0) × (cond b a.job.row further ≡ further)
-    by true e = let z : ◌≡◌ {A = ℕ} 0 1 = cc in absurd (omega arith)
-    by false e = (refl, refl)
 
 -- one row more, counted down
 module _ (clock k : ℕ) (rows : List RowState) (d : RowState) (lt : k < length rows) where
@@ -76,14 +68,6 @@ module _ (clock k i : ℕ) (rows now : List RowState) (d last : RowState) (lt : 
         → (missed-so + 1 ≡ missed clock (drop k rows)) × (row ≡ lowest clock (drop k rows))
     turn_some row e =
         let both = struck_some clock row lowest-so (get_or rows k d).active (e ∙ ap (λ (r : RowState). struck_row clock r.active) here) in (
-          omega (arith, missed_down clock k rows d lt, count_next, both.0),
-          sym both.1 ∙ ap (lowest_of clock (get_or rows k d).active) tell_next ∙ sym (lowest_down clock k rows d lt),
-        )
-
-    pub turn_none : None ≡ struck_row clock (get_or now k d).active
-        → (missed-so ≡ missed clock (drop k rows)) × (lowest-so ≡ lowest clock (drop k rows))
-    turn_none e =
-        let both = struck_none clock lowest-so (get_or rows k d).active (e ∙ ap (λ (r : RowState). struck_row clock r.active) here) in (
           omega (arith, missed_down clock k rows d lt, count_next, both.0),
           sym both.1 ∙ ap (lowest_of clock (get_or rows k d).active) tell_next ∙ sym (lowest_down clock k rows d lt),
         )

@@ -2,6 +2,7 @@
 -- whatever the order of jobs. Assumes nothing.
 use Rattle.std.proofs.Common.{◌≡◌, ℕ, suc, ◌+◌, ◌-◌, ◌<◌, ◌≤◌, Bool, true, cond, leb, ◌⊎◌, List, [], ◌∷◌, map, length, Some, None, Ok, Err, Option, sym, refl, ap, ◌∙◌, subst, subst₂, inl, inr, ⊎_elim, sum_by, arith}
 use Rattle.std.specs.List.{AllByRecursion}
+use Rattle.std.proofs.ByRecursion.{All-map, All-weaker}
 use Rattle.std.proofs.lemmas.List.Sums.{sum_by-cons}
 use Rattle.std.proofs.lemmas.Bool.{cases_lt}
 use Rattle.fault.specs.declared.Layer.TheVariants as layer
@@ -26,7 +27,7 @@ use Rattle.dispatch.specs.Ticks.{Goes, first, served, kept, struck}
 use Rattle.dispatch.specs.Runs.{RunState, fresh, with_rows, release_answer, end_answer, credited, tick_answer, passed, unless_refused, replied, reply, after, replies, after_all}
 use Rattle.dispatch.specs.Orderly.{Orderly, OrderlyJob}
 use Rattle.dispatch.specs.Promises.{tick_one, QuietTick, QuietWithin}
-use Rattle.dispatch.proofs.Lists.{At, at_from, all_map}
+use Rattle.dispatch.proofs.Lists.{At, at_from}
 use Rattle.dispatch.proofs.Chosen.{Free, chosen_at, chosen_none_free, free_no_jobs}
 use Rattle.dispatch.proofs.Accepted.{unless_refused_both, reply_both, release_accepted}
 use Rattle.dispatch.proofs.Counts.{counters_after}
@@ -41,7 +42,7 @@ new_free [] = tt
 new_free (r ∷ rs) = (refl, new_free rs)
 
 struck_free : (clock : ℕ) (rows : List RowState) → AllByRecursion Free rows → AllByRecursion Free (struck clock rows)
-struck_free clock rows free = all_map Free Free (λ r. with_active (kept clock r.active) r) (λ r none. ap (kept clock) none) rows free
+struck_free clock rows free = All-map Free (λ r. with_active (kept clock r.active) r) rows (All-weaker Free (λ r. kept clock r.active ≡ None) (λ r none. ap (kept clock) none) rows free)
 
 free_wants_none : (counts : Job → Bool) (r : RowState) → Free r → wanted counts r.active ≡ 0
 free_wants_none counts r none = ap (wanted counts) none

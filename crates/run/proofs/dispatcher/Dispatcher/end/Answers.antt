@@ -1,8 +1,8 @@
-use Rattle.std.proofs.Common.{refl, true≢false, arith}
+use Rattle.std.proofs.Common.{refl, arith}
 use Rattle.run.specs.Holding.{held, jobs_state}
 use Rattle.dispatch.proofs.Keeping.{orderly_out}
 use Rattle.run.proofs.Held.{length_front}
-use Rattle.run.proofs.Calls.{end_accepts, end_leaves, end_orderly, end_job, end_released}
+use Rattle.run.proofs.Calls.{end_leaves, end_orderly, end_released}
 use Rattle.run.proofs.dispatcher.Dispatcher.end.Goals as goal
 
 pub overflow_sub-age : goal.overflow_sub-age
@@ -25,16 +25,9 @@ invariant_of-self c =
       fewer = omega arith;
     }
 
-pub returns : goal.returns
-returns c =
+pub returns-clause-state : goal.returns-clause-state
+returns-clause-state c =
     let d = c.args.self.now in
-    let st = jobs_state d in
     let long = length_front d.rows.count d.rows.states d.whole d.few in
-    let found = c.in_ok-place.ensures in
-    let k = c.in_ok-place.place in
-    let x = c.at-state.result in record {
-      answer = end_accepts st c.args.row k d.rows.count long found x c.at-state.ensures c.in-Some.active c.in-Some.is;
-      state = end_leaves st c.args.row k d.rows.count long found x c.at-state.ensures c.in-Some.active c.in-Some.is _ (held c.put.new.self) refl c.put.ensures.rows;
-      refused = λ e. absurd (true≢false e);
-      job = end_job st c.args.row k d.rows.count long found x c.at-state.ensures c.in-Some.active c.in-Some.is _ (held c.put.new.self) refl c.put.ensures.rows;
-    }
+    end_leaves (jobs_state d) c.args.row c.in_ok-place.place d.rows.count long c.in_ok-place.ensures c.at-state.result c.at-state.ensures c.in-Some.active c.in-Some.is
+    _ (held c.put.new.self) refl c.put.ensures.rows

@@ -6,14 +6,11 @@ use Rattle.run.proofs.Held.{length_front}
 use Rattle.run.proofs.Passed.{chosen_servable, chosen_orderly, granted_little}
 use Rattle.run.proofs.dispatcher.Dispatcher.pass.Goals as goal
 
-pub pass-ticked-requires : goal.pass-ticked-requires
-pass-ticked-requires c =
+pub pass-ticked-requires-clause-chosen : goal.pass-ticked-requires-clause-chosen
+pass-ticked-requires-clause-chosen c =
     let d = c.args.self.now in
-    let rows = held d.rows in record {
-      whole = d.whole;
-      few = d.few;
-      chosen = chosen_servable d.clock d.rows.count rows c.args.grant c.args.chosen (length_front d.rows.count d.rows.states d.whole d.few) (orderly_out d.clock 1 rows d.orderly) c.requires.first;
-    }
+    let rows = held d.rows in
+    chosen_servable d.clock d.rows.count rows c.args.grant c.args.chosen (length_front d.rows.count d.rows.states d.whole d.few) (orderly_out d.clock 1 rows d.orderly) c.requires.first
 
 pub invariant_of-self : goal.invariant_of-self
 invariant_of-self c =

@@ -1,17 +1,7 @@
 use Rattle.std.proofs.Common.{◌≡◌, suc, ◌+◌, ◌-◌, ◌<◌, ◌++◌, length, take, drop, set, sym, ap, ◌∙◌, arith}
-use Rattle.std.proofs.lemmas.List.{drop_all, take-append-drop}
 use Rattle.dispatch.specs.Jobs.{jobs_of}
 use Rattle.run.proofs.Listed.{jobs_down, jobs_counted, set_before, some_left}
 use Rattle.run.proofs.dispatcher.list.write.Goals as goal
-
-pub loop-i-init : goal.loop-i-init
-loop-i-init c =
-    let rows = c.args.rows.now in
-    let list = c.args.list.now in
-    let none = ap jobs_of (drop_all (length rows) rows (omega arith)) in (
-      omega (arith, ap length none),
-      sym (ap (λ js. take c.args.needed list ++ (js ++ drop c.args.needed list)) none ∙ take-append-drop c.args.needed list),
-    )
 
 pub overflow_sub-n : goal.overflow_sub-n
 overflow_sub-n c = some_left (c.loop-i.i - 1) c.loop-i.i c.loop-i.n c.args.rows.now c.index-rows-i.result (omega arith) (omega arith) c.in-Some.pending c.in-Some.is (c.loop-i.invariant.0 ∙ c.requires.needed)
@@ -37,16 +27,4 @@ loop-i-preserved-in-Some c =
       ap (λ xs. set xs n c.in-Some.pending.job) (c.loop-i.invariant.1 ∙ ap (λ m. take m list ++ rest) up)
           ∙ set_before n list rest c.in-Some.pending.job room
           ∙ ap (λ js. take n list ++ (js ++ drop c.args.needed list)) (sym down),
-    )
-
-pub loop-i-preserved : goal.loop-i-preserved
-loop-i-preserved c =
-    let k = c.loop-i.i - 1 in
-    let rows = c.args.rows.now in
-    let list = c.args.list.now in
-    let lt : k < length rows = omega arith in
-    let next : c.loop-i.i ≡ k + 1 = omega arith in
-    let down = jobs_down k c.loop-i.i rows c.index-rows-i.result lt next _ c.in_default.is in (
-      omega (arith, c.loop-i.invariant.0, ap length down),
-      c.loop-i.invariant.1 ∙ ap (λ js. take c.loop-i.n list ++ (js ++ drop c.args.needed list)) (sym down),
     )

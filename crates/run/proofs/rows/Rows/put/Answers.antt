@@ -1,12 +1,8 @@
-use Rattle.std.proofs.Common.{refl, ◌∙◌, arith}
-use Rattle.std.proofs.lemmas.List.{length-set}
-use Rattle.run.proofs.Held.{take_set_within}
+use Rattle.std.proofs.Common.{arith}
+use Rattle.std.proofs.Math.Seq.{take-set-lt}
 use Rattle.run.proofs.rows.Rows.put.Goals as goal
 
-pub returns : goal.returns
-returns c =
-    let r = c.args.self.now in record {
-      rows = take_set_within r.count r.states c.args.place c.args.state (omega arith);
-      whole = length-set r.states c.args.place c.args.state ∙ c.requires.whole;
-      count = refl;
-    }
+pub returns-clause-rows : goal.returns-clause-rows
+returns-clause-rows c =
+    let r = c.args.self.now in
+    take-set-lt r.count r.states c.args.place c.args.state (omega arith)
