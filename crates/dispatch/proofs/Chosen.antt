@@ -105,7 +105,7 @@ has_among a (suc m) (r ∷ rows) at = and_job_further r.active a.job (jobs_of ro
 abbrev pub GoesFirst : Goes → Active → List Job → Type 0
 GoesFirst goes a js = (k : Job) → Among k js → (k ≡ a.job) ⊎ (goes a.job k ≡ true)
 
-module _ (goes : Goes) (one-first : (a b : Job) → (a.row ≡ b.row → ⊥) → goes a b ≡ not (goes b a))
+module _ (goes : Goes) (one_first : (a b : Job) → (a.row ≡ b.row → ⊥) → goes a b ≡ not (goes b a))
     (transitive : (a b c : Job) → goes a b ≡ true → goes b c ≡ true → goes a c ≡ true) where
   first_of_two : (t : Bool) (x b a : Active) (js : List Job) → goes x.job b.job ≡ t → (x.job.row ≡ b.job.row → ⊥) → GoesFirst goes b js
       → cond t (Some x) (Some b) ≡ Some a → GoesFirst goes a (x.job ∷ js)
@@ -121,7 +121,7 @@ module _ (goes : Goes) (one-first : (a b : Job) → (a.row ≡ b.row → ⊥) �
   first_of_two false x b a js test apart before e k among =
       let same : b ≡ a = some_same b a e in
       subst (λ (y : Active). (k ≡ y.job) ⊎ (goes y.job k ≡ true)) same (⊎_elim
-      (λ here. inr (ap (goes b.job) (sym here) ∙ one-first b.job x.job (λ r. apart (sym r)) ∙ ap not test))
+      (λ here. inr (ap (goes b.job) (sym here) ∙ one_first b.job x.job (λ r. apart (sym r)) ∙ ap not test))
       (λ further. before k further)
       among)
 

@@ -191,10 +191,10 @@ module _ {S : Type 0} (step : S → Bool → (Grant × S)) (goes : Goes) where
   clock_after (c ∷ cs) st =
       omega (arith, sum_by-cons tick_one (reply step goes c st) (replies step goes cs (after step goes c st)), (counters_after c st).0, clock_after cs (after step goes c st))
 
-  pub granted-after : (cs : List Call) (st : RunState S) → (after_all step goes cs st).granted ≡ st.granted + sum_by (of_tick granted_one) (replies step goes cs st)
-  granted-after [] st = omega arith
-  granted-after (c ∷ cs) st =
-      omega (arith, sum_by-cons (of_tick granted_one) (reply step goes c st) (replies step goes cs (after step goes c st)), (counters_after c st).1, granted-after cs (after step goes c st))
+  pub granted_after : (cs : List Call) (st : RunState S) → (after_all step goes cs st).granted ≡ st.granted + sum_by (of_tick granted_one) (replies step goes cs st)
+  granted_after [] st = omega arith
+  granted_after (c ∷ cs) st =
+      omega (arith, sum_by-cons (of_tick granted_one) (reply step goes c st) (replies step goes cs (after step goes c st)), (counters_after c st).1, granted_after cs (after step goes c st))
 
   pub ran_after : (cs : List Call) (st : RunState S) → (after_all step goes cs st).ran ≡ st.ran + sum_by (of_tick ran_one) (replies step goes cs st)
   ran_after [] st = omega arith
@@ -217,7 +217,7 @@ module _ {S : Type 0} (step : S → Bool → (Grant × S)) (goes : Goes) where
   pub counted : (rs : List Row) (s : S) (cs : List Call) → Counted (replies step goes cs (fresh rs s)) (after_all step goes cs (fresh rs s))
   counted rs s cs = record {
     clock = omega (arith, clock_after cs (fresh rs s));
-    granted = omega (arith, granted-after cs (fresh rs s));
+    granted = omega (arith, granted_after cs (fresh rs s));
     ran = omega (arith, ran_after cs (fresh rs s));
     idle = omega (arith, idle_after cs (fresh rs s));
   }

@@ -99,11 +99,11 @@ same_asked head rows (Ok s) (Ok t) (s-policy, s-server, s-rows) (t-policy, t-ser
     let p : ℕ = head.third in
     let policy : t.policy ≡ s.policy = same_policy t.policy s.policy (t-policy ∙ sym s-policy) in
     let rows_same : rows_of t.table ≡ rows_of s.table = same_rows (rows_of t.table) (rows_of s.table) (t-rows ∙ sym s-rows) in
-    let s-bound : server_bound s.server ≡ periodic_bound q p = ap server_bound s-server.1 in
-    let t-bound : server_bound t.server ≡ periodic_bound q p = ap server_bound t-server.1 in
+    let s_bound : server_bound s.server ≡ periodic_bound q p = ap server_bound s-server.1 in
+    let t_bound : server_bound t.server ≡ periodic_bound q p = ap server_bound t-server.1 in
     let there : Decided s.policy (rows_of s.table) (server_bound s.server) w =
     subst (λ x. Decided x (rows_of s.table) (server_bound s.server) w) policy
-    (subst (λ x. Decided t.policy x (server_bound s.server) w) rows_same (subst (λ x. Decided t.policy (rows_of t.table) x w) (t-bound ∙ sym s-bound) w-decided)) in
+    (subst (λ x. Decided t.policy x (server_bound s.server) w) rows_same (subst (λ x. Decided t.policy (rows_of t.table) x w) (t_bound ∙ sym s_bound) w-decided)) in
     a-is ∙ same_said s.policy (rows_of s.table) (server_bound s.server) v w v-decided there ∙ sym (b-is ∙ ap (λ x. map_ok (verdict_lines x) w) rows_same)
 same_asked head rows (Ok s) (Err g) x (inl (out, is)) a b m n = absurd (out x.1.0)
 same_asked head rows (Ok s) (Err g) x (inr (range, broken)) a b m n = absurd (none_broken (rows_of s.table) rows g x.2 broken)

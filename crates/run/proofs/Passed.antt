@@ -21,13 +21,13 @@ abbrev First : Grant → List RowState → Option Active → Type 0
 First g rows chosen = (goes : Goes) × (chosen ≡ if_granted g (first goes rows))
 
 -- a withheld tick is the same whatever job would have run
-served-granted : (g : Grant) (o : Option Active) (rows : List RowState) → served g (if_granted g o) rows ≡ served g o rows
-served-granted grant.Withheld o rows = refl
-served-granted grant.Granted o rows = refl
+served_granted : (g : Grant) (o : Option Active) (rows : List RowState) → served g (if_granted g o) rows ≡ served g o rows
+served_granted grant.Withheld o rows = refl
+served_granted grant.Granted o rows = refl
 
-progress-granted : (g : Grant) (o : Option Active) (clock : ℕ) → progress g (if_granted g o) clock ≡ progress g o clock
-progress-granted grant.Withheld o clock = refl
-progress-granted grant.Granted o clock = refl
+progress_granted : (g : Grant) (o : Option Active) (clock : ℕ) → progress g (if_granted g o) clock ≡ progress g o clock
+progress_granted grant.Withheld o clock = refl
+progress_granted grant.Granted o clock = refl
 
 pub chosen_servable : (clock n : ℕ) (rows : List RowState) (g : Grant) (chosen : Option Active) → length rows ≡ n → Orderly clock 1 rows → First g rows chosen
     → IfSome chosen (Servable (clock + 1) n)
@@ -45,7 +45,7 @@ chosen_servable clock n rows grant.Granted (Some a) long orderly f =
 pub chosen_orderly : (clock : ℕ) (rows : List RowState) (g : Grant) (chosen : Option Active) → Orderly clock 1 rows → First g rows chosen
     → Orderly (clock + 1) 1 (struck (clock + 1) (served g chosen rows))
 chosen_orderly clock rows g chosen orderly f =
-    subst (λ rs. Orderly (clock + 1) 1 (struck (clock + 1) rs)) (sym (ap (λ o. served g o rows) f.1 ∙ served-granted g (first f.0 rows) rows)) (orderly_passed g f.0 clock rows orderly)
+    subst (λ rs. Orderly (clock + 1) 1 (struck (clock + 1) rs)) (sym (ap (λ o. served g o rows) f.1 ∙ served_granted g (first f.0 rows) rows)) (orderly_passed g f.0 clock rows orderly)
 
 pub granted_little : (p : Progress) → granted_one p ≤ 1
 granted_little Withheld = omega arith
@@ -58,13 +58,13 @@ with_supply s st = record { clock = st.clock; supply = s; rows = st.rows; grante
 
 -- a tick of a run, from what its dispatcher was told
 module _ {S : Type 0} (step : S → Bool → (Grant × S)) (goes : Goes) (offer : Bool) (st : RunState S) (g : Grant) (chosen : Option Active)
-    (grant-is : g ≡ (step st.supply offer).0) (chosen_is : chosen ≡ if_granted g (first goes st.rows)) where
+    (grant_is : g ≡ (step st.supply offer).0) (chosen_is : chosen ≡ if_granted g (first goes st.rows)) where
   pub progress_is : progress g chosen (st.clock + 1) ≡ progressed step goes offer st
   progress_is =
-      ap (λ o. progress g o (st.clock + 1)) chosen_is ∙ progress-granted g (first goes st.rows) (st.clock + 1) ∙ ap (λ h. progress h (first goes st.rows) (st.clock + 1)) grant-is
+      ap (λ o. progress g o (st.clock + 1)) chosen_is ∙ progress_granted g (first goes st.rows) (st.clock + 1) ∙ ap (λ h. progress h (first goes st.rows) (st.clock + 1)) grant_is
 
   credited_is : served g chosen st.rows ≡ credited step goes offer st
-  credited_is = ap (λ o. served g o st.rows) chosen_is ∙ served-granted g (first goes st.rows) st.rows ∙ ap (λ h. served h (first goes st.rows) st.rows) grant-is
+  credited_is = ap (λ o. served g o st.rows) chosen_is ∙ served_granted g (first goes st.rows) st.rows ∙ ap (λ h. served h (first goes st.rows) st.rows) grant_is
 
   pub ticked_is : ticked_by g chosen st ≡ ticked step goes offer st
   ticked_is = ap₂ (λ p rs. record { progress = p; missed = missed (st.clock + 1) rs; lowest = lowest (st.clock + 1) rs }) progress_is credited_is

@@ -44,7 +44,7 @@ half_down clock (suc k) (r ∷ rows) d lt = ap (λ rs. r ∷ rs) (half_down cloc
 
 -- one turn of the loop, from row k + 1 to row k, which holds x
 module _ (clock k i : ℕ) (rows now : List RowState) (d last : RowState) (lt : k < length rows) (next : i ≡ k + 1)
-    (so : now ≡ half_struck clock i rows) (struck-off : last ≡ strike_of clock (get_or now k d)) where
+    (so : now ≡ half_struck clock i rows) (struck_off : last ≡ strike_of clock (get_or now k d)) where
   up : i ≡ suc k
   up = omega arith
 
@@ -53,21 +53,21 @@ module _ (clock k i : ℕ) (rows now : List RowState) (d last : RowState) (lt : 
 
   pub turn_rows : set now k last ≡ half_struck clock k rows
   turn_rows =
-      ap (set now k) (struck-off ∙ ap (strike_of clock) here)
+      ap (set now k) (struck_off ∙ ap (strike_of clock) here)
       ∙ ap (λ rs. set rs k (strike_of clock (get_or rows k d))) (so ∙ ap (λ m. half_struck clock m rows) up)
       ∙ half_down clock k rows d lt
 
-  module _ (missed-so lowest-so : ℕ) (count : missed-so ≡ missed clock (drop i rows)) (tell : lowest-so ≡ lowest clock (drop i rows)) where
-    count_next : missed-so ≡ missed clock (drop (k + 1) rows)
+  module _ (missed_so lowest_so : ℕ) (count : missed_so ≡ missed clock (drop i rows)) (tell : lowest_so ≡ lowest clock (drop i rows)) where
+    count_next : missed_so ≡ missed clock (drop (k + 1) rows)
     count_next = count ∙ ap (λ m. missed clock (drop m rows)) next
 
-    tell_next : lowest-so ≡ lowest clock (drop (k + 1) rows)
+    tell_next : lowest_so ≡ lowest clock (drop (k + 1) rows)
     tell_next = tell ∙ ap (λ m. lowest clock (drop m rows)) next
 
     pub turn_some : (row : ℕ) → Some row ≡ struck_row clock (get_or now k d).active
-        → (missed-so + 1 ≡ missed clock (drop k rows)) × (row ≡ lowest clock (drop k rows))
+        → (missed_so + 1 ≡ missed clock (drop k rows)) × (row ≡ lowest clock (drop k rows))
     turn_some row e =
-        let both = struck_some clock row lowest-so (get_or rows k d).active (e ∙ ap (λ (r : RowState). struck_row clock r.active) here) in (
+        let both = struck_some clock row lowest_so (get_or rows k d).active (e ∙ ap (λ (r : RowState). struck_row clock r.active) here) in (
           omega (arith, missed_down clock k rows d lt, count_next, both.0),
           sym both.1 ∙ ap (lowest_of clock (get_or rows k d).active) tell_next ∙ sym (lowest_down clock k rows d lt),
         )

@@ -52,10 +52,10 @@ served_due goes early clock d rows orderly grant.Granted (Some a) is =
     let at = chosen_at goes clock rows a orderly is in
     let k : ℕ = a.job.row - 1 in
     ⊎_elim
-    (λ after-d.
+    (λ after_d.
     let from = chosen_from_all (λ j. j.deadline) goes early a.job.deadline rows (subst (From (λ j. j.deadline) a.job.deadline) (sym is) (omega arith)) in
-    inr (omega (arith, quiet_due d a.job.deadline (clock + 1) after-d rows from, sum_by-worked (work_due d) (clock + 1) k a rows at)))
-    (λ by-d. inl (sum_by_counted (work_due d) clock k a (le-leb a.job.deadline d by-d) (chosen_orderly goes clock rows a orderly is).6 rows at))
+    inr (omega (arith, quiet_due d a.job.deadline (clock + 1) after_d rows from, sum_by-worked (work_due d) (clock + 1) k a rows at)))
+    (λ by_d. inl (sum_by_counted (work_due d) clock k a (le-leb a.job.deadline d by_d) (chosen_orderly goes clock rows a orderly is).6 rows at))
     (cases_lt d a.job.deadline)
 
 -- a job that is struck off wants work by then
@@ -70,8 +70,8 @@ late-wanted clock (Some a) live = by (eqb a.job.deadline clock) refl
   where
     by : (t : Bool) → eqb a.job.deadline clock ≡ t → cond t 1 0 ≤ cond (leb a.job.deadline clock) (a.cost - a.ran) 0
     by true test =
-        let now-due : leb a.job.deadline clock ≡ true = le-leb a.job.deadline clock (omega (arith, eqb-true a.job.deadline clock test)) in
-        subst (λ b. 1 ≤ cond b (a.cost - a.ran) 0) (sym now-due) (omega arith)
+        let now_due : leb a.job.deadline clock ≡ true = le-leb a.job.deadline clock (omega (arith, eqb-true a.job.deadline clock test)) in
+        subst (λ b. 1 ≤ cond b (a.cost - a.ran) 0) (sym now_due) (omega arith)
     by false test = omega arith
 
 all_live : (clock i : ℕ) (rows : List RowState) → Orderly clock i rows → AllByRecursion (λ r. Live r.active) rows

@@ -18,8 +18,8 @@ returns-clause-first g c =
     let order = c.args.self.now.order in
     let goes = goes_by g.O.Order.keyed g.O.Order.before order in
     let offer = c.args.offer in
-    let ticked-so = c.pass.ensures.answer ∙ ticked_is step goes offer st c.tick-grant.result c.chosen-chosen.result c.tick-grant.ensures.answer c.chosen-chosen.ensures in
-    subst (FollowsOrder goes (jobs_of st.rows)) (sym (ap (λ (t : Ticked). t.progress) ticked-so))
+    let ticked_so = c.pass.ensures.answer ∙ ticked_is step goes offer st c.tick-grant.result c.chosen-chosen.result c.tick-grant.ensures.answer c.chosen-chosen.ensures in
+    subst (FollowsOrder goes (jobs_of st.rows)) (sym (ap (λ (t : Ticked). t.progress) ticked_so))
     (follows_order goes (g.met.O.Order.one_first order) (g.met.O.Order.transitive order) step offer st (orderly_out d.clock 1 st.rows d.orderly))
 
 pub returns-clause-lives : goal.returns-clause-lives
@@ -33,7 +33,7 @@ returns-clause-lives g c =
     let chosen = c.chosen-chosen.result in
     let granted = c.tick-grant.ensures.answer in
     let first = c.chosen-chosen.ensures in
-    let ticked-so = c.pass.ensures.answer ∙ ticked_is step goes offer st grant chosen granted first in
-    let passed-so = ap (with_supply c.tick-grant.new.self) c.pass.ensures.state ∙ passed_is step goes offer st grant chosen granted first c.tick-grant.new.self c.tick-grant.ensures.state in
-    subst₂ (λ p rs. JobsLive (st.clock + 1) p st.rows rs) (sym (ap (λ (t : Ticked). t.progress) ticked-so)) (sym (ap (λ s. s.rows) passed-so))
+    let ticked_so = c.pass.ensures.answer ∙ ticked_is step goes offer st grant chosen granted first in
+    let passed_so = ap (with_supply c.tick-grant.new.self) c.pass.ensures.state ∙ passed_is step goes offer st grant chosen granted first c.tick-grant.new.self c.tick-grant.ensures.state in
+    subst₂ (λ p rs. JobsLive (st.clock + 1) p st.rows rs) (sym (ap (λ (t : Ticked). t.progress) ticked_so)) (sym (ap (λ s. s.rows) passed_so))
     (jobs_live step goes offer st (orderly_out d.clock 1 st.rows d.orderly))
