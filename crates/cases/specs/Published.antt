@@ -1,8 +1,8 @@
 -- Worked cases, by the definitions of the bound and of the decisions. Assumes nothing.
 use Rattle.std.specs.Prelude.{◌≡◌, ℕ, List, [], ◌∷◌, Ok, Err}
 use Rattle.std.proofs.Common.{arith}
-use Rattle.fault.specs.declared.Layer.TheVariants.{Decision}
-use Rattle.fault.specs.Layers.{fault_of}
+use Rattle.fault.specs.declared.rule.Rule.TheVariants.{RowInTime}
+use Rattle.fault.specs.Rules.{fault_of}
 use Rattle.supply.specs.Periodic.{periodic_bound}
 use Rattle.table.specs.declared.row.Row.{Row}
 use Rattle.table.specs.Rows.{InBounds}
@@ -42,11 +42,11 @@ abbrev pub short_deadline : List Row
 short_deadline = first_row ∷ second_row ∷ row 12 52 51 (omega arith, omega arith, omega arith, omega arith) ∷ []
 
 abbrev pub ShortDeadline : Type 0
-ShortDeadline = Prioritised short_deadline (periodic_bound 1 1) (Err (fault_of Decision 41 3 51))
+ShortDeadline = Prioritised short_deadline (periodic_bound 1 1) (Err (fault_of RowInTime 3 51))
 
 -- the server (1, 4) is too small for one row
 abbrev pub SmallBudget : Type 0
-SmallBudget = Prioritised (row 2 7 7 (omega arith, omega arith, omega arith, omega arith) ∷ []) (periodic_bound 1 4) (Err (fault_of Decision 41 1 7))
+SmallBudget = Prioritised (row 2 7 7 (omega arith, omega arith, omega arith, omega arith) ∷ []) (periodic_bound 1 4) (Err (fault_of RowInTime 1 7))
 
 -- two rows that fill a whole processor, which is admitted
 abbrev pub half_row : Row

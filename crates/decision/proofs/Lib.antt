@@ -1,4 +1,4 @@
-pub mod Adding
 pub mod Widen
 pub mod Windows
+pub mod Responding
 pub mod Unique

@@ -2,8 +2,8 @@
 use Rattle.std.proofs.Common.{◌≡◌, ℕ, List, Ok, Err, sym, ap, ◌∙◌, inl, inr, arith}
 use Rattle.std.proofs.lemmas.List.{ext_get_or}
 use Rattle.arith.proofs.Orders.{neither_below}
-use Rattle.fault.specs.declared.Layer.TheVariants.{Decision}
-use Rattle.fault.specs.Layers.{fault_of}
+use Rattle.fault.specs.declared.rule.Rule.TheVariants.{NoOverload}
+use Rattle.fault.specs.Rules.{fault_of}
 use Rattle.table.specs.declared.row.Row.{Row}
 use Rattle.decision.specs.Least.{Least, NoneIn}
 use Rattle.decision.specs.Decisions.{FirstOverload, miss_fault}
@@ -34,7 +34,7 @@ one_schedule rs B (Err f) (Err g) (inl p) (inl q) = ap Err (p.1 ∙ sym q.1)
 one_schedule rs B (Err f) (Err g) (inl p) (inr q) = absurd (least_some _ _ _ q.0 q.2 p.0)
 one_schedule rs B (Err f) (Err g) (inr p) (inl q) = absurd (least_some _ _ _ p.0 p.2 q.0)
 one_schedule rs B (Err f) (Err g) (inr p) (inr q) =
-    ap Err (p.5 ∙ ap (fault_of Decision 42 0) (overload_same rs B p.1 q.1 p.4 q.4) ∙ sym q.5)
+    ap Err (p.5 ∙ ap (fault_of NoOverload 0) (overload_same rs B p.1 q.1 p.4 q.4) ∙ sym q.5)
 
 pub one_priority : OnePriority
 one_priority rs B (Ok a) (Ok b) p q =

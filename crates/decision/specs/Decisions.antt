@@ -1,9 +1,9 @@
 -- What the decisions answer, for the rows of a table and a supply that promises B(t) in any t ticks. Rows are counted
 -- from 0 here and from 1 in a fault. Assumes nothing.
 use Rattle.std.specs.Prelude.{◌≡◌, ℕ, ◌+◌, ◌<◌, ◌≤◌, ◌⊎◌, List, length, Ok, Err, Result, slice_index}
-use Rattle.fault.specs.declared.Fault.{Fault}
-use Rattle.fault.specs.declared.Layer.TheVariants.{Decision}
-use Rattle.fault.specs.Layers.{fault_of}
+use Rattle.fault.specs.declared.fault.Fault.{Fault}
+use Rattle.fault.specs.declared.rule.Rule.TheVariants.{NoOverload, RowInTime, WindowCloses}
+use Rattle.fault.specs.Rules.{fault_of}
 use Rattle.table.specs.declared.row.Row.{Row}
 use Rattle.table.specs.Sums.{requested, workload, demand, row_at}
 use Rattle.decision.specs.Least.{Least, NoneIn}
@@ -16,7 +16,7 @@ abbrev pub NoWindow : List Row → (ℕ → ℕ) → Type 0
 NoWindow rs B = NoneIn (λ t. requested rs t ≤ B t) 1 1000000
 
 abbrev pub open_fault : Fault
-open_fault = fault_of Decision 43 0 1000000
+open_fault = fault_of WindowCloses 0 1000000
 
 abbrev pub Windowed : List Row → (ℕ → ℕ) → Result ℕ Fault → Type 0
 Windowed rs B (Ok l) = Window rs B l
@@ -30,7 +30,7 @@ abbrev pub NoResponse : List Row → (ℕ → ℕ) → ℕ → Type 0
 NoResponse rs B i = NoneIn (λ t. workload rs i t ≤ B t) 1 (row_at rs i).deadline
 
 abbrev pub miss_fault : List Row → ℕ → Fault
-miss_fault rs i = fault_of Decision 41 (i + 1) (row_at rs i).deadline
+miss_fault rs i = fault_of RowInTime (i + 1) (row_at rs i).deadline
 
 -- fixed priority: the response of each row, or the first row that has none
 abbrev pub Prioritised : List Row → (ℕ → ℕ) → Result (List ℕ) Fault → Type 0
@@ -49,4 +49,4 @@ FirstOverload rs B t = (B t < demand rs t) × ((k : ℕ) → k < t → demand rs
 abbrev pub Scheduled : List Row → (ℕ → ℕ) → Result ℕ Fault → Type 0
 Scheduled rs B (Ok l) = Window rs B l × DemandMet rs B
 Scheduled rs B (Err f) = (NoWindow rs B × (f ≡ open_fault))
-    ⊎ ((l : ℕ) × (t : ℕ) × Window rs B l × (t < l) × FirstOverload rs B t × (f ≡ fault_of Decision 42 0 t))
+    ⊎ ((l : ℕ) × (t : ℕ) × Window rs B l × (t < l) × FirstOverload rs B t × (f ≡ fault_of NoOverload 0 t))

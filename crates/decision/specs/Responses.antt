@@ -1,6 +1,7 @@
 -- The response times that a value holds. Assumes nothing.
-use Rattle.std.specs.Prelude.{ℕ, List, take}
+use Rattle.std.specs.Prelude.{ℕ, List}
+use Rattle.bounded.specs.Items.{items_of}
 use Rattle.decision.specs.declared.responses.Responses.{Responses}
 
 abbrev pub responses_of : Responses → List ℕ
-responses_of r = take r.count r.times
+responses_of r = items_of r.times

@@ -5,10 +5,11 @@ ghost use Rattle.table.specs.Sums.{demand};
 ghost use Rattle.decision.specs.Decisions.{Scheduled};
 ghost use Rattle.decision.specs.Least.{Found};
 
-use crate::curves::{Beyond, Demand};
+use crate::count::Deadlines;
+use crate::curves::{Beyond, Work};
 use crate::search::met;
 use crate::window::busy_window;
-use fault::{Fault, Layer};
+use fault::{Fault, Rule};
 use supply::Supply;
 use table::Table;
 
@@ -17,7 +18,11 @@ fn first_overload<S: Supply>(table: &Table, supply: &S, last: u32) -> Option<u32
     requires { last ≤ 1000000 }
     ensures { Found (λ t. S.Supply.bound supply.now t < demand (rows_of table.now) t) 0 last result }
 {
-    met(&Beyond { supply }, &Demand { table }, 0, last)
+    let due = Work {
+        rows: table.rows(),
+        counted: Deadlines,
+    };
+    met(&Beyond { supply }, &due, 0, last)
 }
 
 // The busy window, where in every number of ticks, without upper limit, the supply promises all that can be due in
@@ -27,11 +32,7 @@ pub fn earliest_deadline<S: Supply>(table: &Table, supply: &S) -> Result<u32, Fa
 {
     let window = busy_window(table, supply)?;
     match first_overload(table, supply, window - 1) {
-        Some(t) => Err(Fault {
-            number: 42,
-            layer: Layer::Decision,
-            place: (0, t),
-        }),
+        Some(t) => Err(Rule::NoOverload.broken_at(0, t)),
         None => Ok(window),
     }
 }

@@ -1,17 +1,17 @@
 // The decisions: whether a supply suffices for a table, over any supply.
 //
 // `window`, `priority` and `deadline` are the three decisions, and `determined` says that each has one answer only.
-// Behind them stand the sums over a table's rows, these and the supply's bound as curves, and one search over curves.
+// Behind them stand what rows ask and what a supply promises as curves, by what is counted of a row, and one search
+// over curves.
 #![tactic(auto)]
 
-mod curve;
+mod count;
 mod curves;
 pub mod deadline;
 pub mod determined;
 pub mod priority;
 pub mod responses;
 mod search;
-mod sums;
 pub mod window;
 
 pub use deadline::earliest_deadline;

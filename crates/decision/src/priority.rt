@@ -4,10 +4,11 @@ ghost use Rattle.table.specs.Tables.{rows_of};
 ghost use Rattle.decision.specs.Decisions.{Prioritised};
 ghost use Rattle.decision.specs.Responses.{responses_of};
 
-use crate::curves::{Promise, Workload};
+use crate::count::Releases;
+use crate::curves::{Promise, Work, Workload};
 use crate::responses::Responses;
 use crate::search::met;
-use fault::{Fault, Layer};
+use fault::{Fault, Rule};
 use supply::Supply;
 use table::Table;
 
@@ -17,19 +18,16 @@ pub fn fixed_priority<S: Supply>(table: &Table, supply: &S) -> Result<Responses,
     ensures { Prioritised (rows_of table.now) (S.Supply.bound supply.now) (map_ok responses_of result) }
 {
     let rows = table.rows();
-    let given = Promise { supply };
-    let mut times: [u32; 16] = [0; 16];
-    for i in 0..rows.len() {
-        let deadline = rows[i].deadline;
-        let asked = Workload { table, row: i };
-        match met(&asked, &given, 1, deadline) {
-            Some(response) => times[i] = response,
-            None => return Err(Fault {
-                number: 41,
-                layer: Layer::Decision,
-                place: (i as u32 + 1, deadline),
-            }),
-        }
+    let mut responses = Responses::new();
+    for (i, row) in rows.iter().enumerate() {
+        let before = Work {
+            rows: &rows[..i],
+            counted: Releases,
+        };
+        let asked = Workload { row, before };
+        let miss = Rule::RowInTime.broken_at(i as u32 + 1, row.deadline);
+        let response = met(&asked, &Promise { supply }, 1, row.deadline).ok_or(miss)?;
+        responses.push(response);
     }
-    Ok(Responses::of(times, rows.len()))
+    Ok(responses)
 }

@@ -2,9 +2,10 @@
 ghost use Rattle.table.specs.Tables.{rows_of};
 ghost use Rattle.decision.specs.Decisions.{Windowed};
 
-use crate::curves::{Promise, Requested};
+use crate::count::Releases;
+use crate::curves::{Promise, Work};
 use crate::search::met;
-use fault::{Fault, Layer};
+use fault::{Fault, Rule};
 use supply::Supply;
 use table::Table;
 
@@ -15,12 +16,10 @@ pub const LONGEST_WINDOW: u32 = 1_000_000;
 pub fn busy_window<S: Supply>(table: &Table, supply: &S) -> Result<u32, Fault>
     ensures { Windowed (rows_of table.now) (S.Supply.bound supply.now) result }
 {
-    match met(&Requested { table }, &Promise { supply }, 1, LONGEST_WINDOW) {
-        Some(window) => Ok(window),
-        None => Err(Fault {
-            number: 43,
-            layer: Layer::Decision,
-            place: (0, LONGEST_WINDOW),
-        }),
-    }
+    let released = Work {
+        rows: table.rows(),
+        counted: Releases,
+    };
+    let open = Rule::WindowCloses.broken_at(0, LONGEST_WINDOW);
+    met(&released, &Promise { supply }, 1, LONGEST_WINDOW).ok_or(open)
 }

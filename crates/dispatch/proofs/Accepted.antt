@@ -1,16 +1,15 @@
 -- When a call is accepted: what its answer says of the state that it was asked in. Assumes nothing.
-use Rattle.std.proofs.Common.{◌≡◌, ℕ, ◌-◌, ◌<◌, ◌≤◌, Bool, true, false, cond, ◌&&◌, ltb, leb, length, Some, None, Ok, Err, Option, Result, sym, refl, ap, ◌∙◌, subst, arith}
+use Rattle.std.proofs.Common.{◌≡◌, ℕ, ◌-◌, ◌<◌, ◌≤◌, Bool, true, false, cond, ◌&&◌, ltb, leb, length, Some, None, Ok, Err, Option, Result, sym, refl, ap, ◌∙◌, subst}
 use Rattle.std.proofs.lemmas.Bool.{and_parts, leb-true, ltb-true}
-use Rattle.fault.specs.declared.Fault.{Fault}
-use Rattle.fault.specs.Steps.{and_then}
+use Rattle.fault.specs.declared.fault.Fault.{Fault}
+use Rattle.fault.specs.Steps.{and_then, map_ok}
 use Rattle.supply.specs.declared.grant.Grant.{Grant}
 use Rattle.dispatch.specs.declared.job.Active.{Active}
 use Rattle.dispatch.specs.declared.reply.Ticked.{Ticked}
-use Rattle.dispatch.specs.declared.reply.Reply.{Reply}
-use Rattle.dispatch.specs.declared.reply.Reply.TheVariants.{Refused}
+use Rattle.dispatch.specs.declared.reply.Answer.{Answer}
 use Rattle.dispatch.specs.Jobs.{state_at}
 use Rattle.dispatch.specs.Ticks.{Goes}
-use Rattle.dispatch.specs.Runs.{RunState, unless_refused, place_of, admit, release_answer, age_of, end_answer, last_clock, ticked, tick_answer, replied}
+use Rattle.dispatch.specs.Runs.{RunState, Reply, unless_refused, place_of, admit, release_answer, age_of, end_answer, last_clock, ticked, tick_answer}
 
 -- what holds after an accepted call, and of the state as it was, holds after the call
 pub unless_refused_both : {A B : Type 0} (P : B → Type 0) (r : Result A Fault) (new old : B) → ((x : A) → r ≡ Ok x → P new) → P old → P (unless_refused r new old)
@@ -18,29 +17,23 @@ unless_refused_both P (Ok x) new old accepted refused = accepted x refl
 unless_refused_both P (Err f) new old accepted refused = refused
 
 -- the same of the reply together with the state
-pub reply_both : {A B : Type 0} (P : Reply → B → Type 0) (say : A → Reply) (r : Result A Fault) (new old : B)
-    → ((x : A) → r ≡ Ok x → P (say x) new) → ((f : Fault) → P (Refused f) old) → P (replied say r) (unless_refused r new old)
+pub reply_both : {A B : Type 0} (P : Reply → B → Type 0) (say : A → Answer) (r : Result A Fault) (new old : B)
+    → ((x : A) → r ≡ Ok x → P (Ok (say x)) new) → ((f : Fault) → P (Err f) old) → P (map_ok say r) (unless_refused r new old)
 reply_both P say (Ok x) new old accepted refused = accepted x refl
 reply_both P say (Err f) new old accepted refused = refused f
 
 -- and of the reply alone
-pub replied_both : {A : Type 0} (P : Reply → Type 0) (say : A → Reply) (r : Result A Fault) → ((x : A) → r ≡ Ok x → P (say x)) → ((f : Fault) → P (Refused f)) → P (replied say r)
+pub replied_both : {A : Type 0} (P : Reply → Type 0) (say : A → Answer) (r : Result A Fault) → ((x : A) → r ≡ Ok x → P (Ok (say x))) → ((f : Fault) → P (Err f)) → P (map_ok say r)
 replied_both P say (Ok x) accepted refused = accepted x refl
 replied_both P say (Err f) accepted refused = refused f
 
-err_not_ok : {A E : Type 0} (e : E) (x : A) → ◌≡◌ {A = Result A E} (Err e) (Ok x) → ⊥
-err_not_ok e x is = let z : ◌≡◌ {A = ℕ} 0 1 = cc in omega arith
-
-ok_same : {A E : Type 0} (x y : A) → ◌≡◌ {A = Result A E} (Ok x) (Ok y) → x ≡ y
-ok_same x y is = cc
-
 and_then_ok : {A B E : Type 0} (r : Result A E) (f : A → Result B E) (y : B) → and_then r f ≡ Ok y → (x : A) × (r ≡ Ok x) × (f x ≡ Ok y)
 and_then_ok (Ok x) f y is = (x, refl, is)
-and_then_ok (Err e) f y is = absurd (err_not_ok e y is)
+and_then_ok (Err e) f y is = absurd cc
 
 cond_ok : {A E : Type 0} (t : Bool) (x : A) (e : E) (y : A) → cond t (Ok x) (Err e) ≡ Ok y → (t ≡ true) × (x ≡ y)
-cond_ok true x e y is = (refl, ok_same x y is)
-cond_ok false x e y is = absurd (err_not_ok e y is)
+cond_ok true x e y is = (refl, cc)
+cond_ok false x e y is = absurd cc
 
 -- the row that a call names is there
 pub place_there : (i n k : ℕ) → place_of i n ≡ Ok k → (1 ≤ i) × (i ≤ n) × (i - 1 ≡ k)
@@ -59,8 +52,8 @@ release_accepted i st x is =
     (place.0, place.1, subst (λ k. (state_at st.rows k).next ≤ st.clock) (sym place.2) due)
 
 age_ok : (i clock : ℕ) (o : Option Active) (age : ℕ) → age_of i clock o ≡ Ok age → (a : Active) × (o ≡ Some a) × (clock - a.job.release ≡ age)
-age_ok i clock None age is = absurd (err_not_ok _ age is)
-age_ok i clock (Some a) age is = (a, refl, ok_same (clock - a.job.release) age is)
+age_ok i clock None age is = absurd cc
+age_ok i clock (Some a) age is = (a, refl, cc)
 
 -- an end finds a job, and answers its age
 pub end_accepted : {S : Type 0} (i : ℕ) (st : RunState S) (age : ℕ) → end_answer i st ≡ Ok age

@@ -23,21 +23,15 @@ Free r = r.active ≡ None
 abbrev pub Has : Active → RowState → Type 0
 Has a r = r.active ≡ Some a
 
-some_not_none : {A : Type 0} (x : A) → Some x ≡ None → ⊥
-some_not_none x e = let z : ◌≡◌ {A = ℕ} 0 1 = cc in omega arith
-
-some_same : {A : Type 0} (x y : A) → Some x ≡ Some y → x ≡ y
-some_same x y e = cc
-
 -- nothing is chosen only where nothing is pending
 
 cond_not_none : (t : Bool) (a b : Active) → cond t (Some a) (Some b) ≡ None → ⊥
-cond_not_none true a b e = some_not_none a e
-cond_not_none false a b e = some_not_none b e
+cond_not_none true a b e = cc
+cond_not_none false a b e = cc
 
 sooner_none : (goes : Goes) (o p : Option Active) → sooner goes o p ≡ None → (o ≡ None) × (p ≡ None)
 sooner_none goes None p e = (refl, e)
-sooner_none goes (Some a) None e = absurd (some_not_none a e)
+sooner_none goes (Some a) None e = absurd cc
 sooner_none goes (Some a) (Some b) e = absurd (cond_not_none (goes a.job b.job) a b e)
 
 pub chosen_none_free : (goes : Goes) (rows : List RowState) → first goes rows ≡ None → AllByRecursion Free rows
@@ -67,7 +61,7 @@ sooner_some goes (Some x) (Some b) a e = cond_either (goes x.job b.job) x b a e
 -- rows that are numbered from i on
 chosen_from : (goes : Goes) (clock i : ℕ) (rows : List RowState) (a : Active) → Orderly clock i rows → first goes rows ≡ Some a
     → (m : ℕ) × (a.job.row ≡ i + m) × At (Has a) m rows
-chosen_from goes clock i [] a orderly e = absurd (some_not_none a (sym e))
+chosen_from goes clock i [] a orderly e = absurd cc
 chosen_from goes clock i (r ∷ rows) a orderly e =
     ⊎_elim
     (λ here. let own = subst (OrderlyJob clock i r) here orderly.0 in (0, omega arith, here))
@@ -110,7 +104,7 @@ module _ (goes : Goes) (one_first : (a b : Job) → (a.row ≡ b.row → ⊥) �
   first_of_two : (t : Bool) (x b a : Active) (js : List Job) → goes x.job b.job ≡ t → (x.job.row ≡ b.job.row → ⊥) → GoesFirst goes b js
       → cond t (Some x) (Some b) ≡ Some a → GoesFirst goes a (x.job ∷ js)
   first_of_two true x b a js test apart before e k among =
-      let same : x ≡ a = some_same x a e in
+      let same : x ≡ a = cc in
       ⊎_elim
       (λ here. inl (sym here ∙ ap (λ (y : Active). y.job) same))
       (λ further. inr (subst (λ (y : Active). goes y.job k ≡ true) same (⊎_elim
@@ -119,7 +113,7 @@ module _ (goes : Goes) (one_first : (a b : Job) → (a.row ≡ b.row → ⊥) �
       (before k further))))
       among
   first_of_two false x b a js test apart before e k among =
-      let same : b ≡ a = some_same b a e in
+      let same : b ≡ a = cc in
       subst (λ (y : Active). (k ≡ y.job) ⊎ (goes y.job k ≡ true)) same (⊎_elim
       (λ here. inr (ap (goes b.job) (sym here) ∙ one_first b.job x.job (λ r. apart (sym r)) ∙ ap not test))
       (λ further. before k further)
@@ -130,14 +124,14 @@ module _ (goes : Goes) (one_first : (a b : Job) → (a.row ≡ b.row → ⊥) �
   first-sooner None p a js apart none before e k among = before a e k among
   first-sooner (Some x) None a js apart none before e k among =
       ⊎_elim
-      (λ here. inl (sym here ∙ ap (λ (y : Active). y.job) (some_same x a e)))
+      (λ here. let same : x ≡ a = cc in inl (sym here ∙ ap (λ (y : Active). y.job) same))
       (λ further. absurd (subst (Among k) (none refl) further))
       among
   first-sooner (Some x) (Some b) a js apart none before e k among =
       first_of_two (goes x.job b.job) x b a js refl (apart x b refl refl) (before b refl) e k among
 
   pub chosen_first : (clock i : ℕ) (rows : List RowState) (a : Active) → Orderly clock i rows → first goes rows ≡ Some a → GoesFirst goes a (jobs_of rows)
-  chosen_first clock i [] a orderly e = absurd (some_not_none a (sym e))
+  chosen_first clock i [] a orderly e = absurd cc
   chosen_first clock i (r ∷ rows) a orderly e =
       first-sooner r.active (first goes rows) a (jobs_of rows)
       (λ x b here further same.

@@ -1,9 +1,9 @@
 -- What a run answers to each call and holds after it, for any supply, by its step, and any order. Assumes nothing.
 use Rattle.std.specs.Prelude.{ℕ, ◌+◌, ◌-◌, Bool, cond, ◌&&◌, List, [], ◌∷◌, map, length, Some, None, Ok, Err, Option, Result, nat_le, nat_lt}
-use Rattle.fault.specs.declared.Fault.{Fault}
-use Rattle.fault.specs.declared.Layer.TheVariants as layer
-use Rattle.fault.specs.Layers.{fault_of}
-use Rattle.fault.specs.Steps.{and_then}
+use Rattle.fault.specs.declared.fault.Fault.{Fault}
+use Rattle.fault.specs.declared.rule.Rule.TheVariants as rule
+use Rattle.fault.specs.Rules.{fault_of}
+use Rattle.fault.specs.Steps.{and_then, map_ok}
 use Rattle.supply.specs.declared.grant.Grant.{Grant}
 use Rattle.table.specs.declared.row.Row.{Row}
 use Rattle.dispatch.specs.declared.call.Call.{Call}
@@ -13,8 +13,8 @@ use Rattle.dispatch.specs.declared.job.RowState.{RowState}
 use Rattle.dispatch.specs.declared.reply.Progress.{Progress}
 use Rattle.dispatch.specs.declared.reply.Ticked.{Ticked}
 use Rattle.dispatch.specs.declared.reply.Looked.{Looked}
-use Rattle.dispatch.specs.declared.reply.Reply.{Reply}
-use Rattle.dispatch.specs.declared.reply.Reply.TheVariants as told
+use Rattle.dispatch.specs.declared.reply.Answer.{Answer}
+use Rattle.dispatch.specs.declared.reply.Answer.TheVariants as told
 use Rattle.dispatch.specs.Progresses.{granted_one, ran_one, idle_one}
 use Rattle.dispatch.specs.Jobs.{new_row, state_at, change, released, cleared, jobs_of}
 use Rattle.dispatch.specs.Ticks.{Goes, first, served, progress, struck, missed, lowest}
@@ -42,12 +42,12 @@ unless_refused (Err _) new old = old
 
 -- the place of row i in a table of n rows: 51 where it has none
 abbrev pub place_of : ℕ → ℕ → Result ℕ Fault
-place_of i n = cond (nat_le 1 i && nat_le i n) (Ok (i - 1)) (Err (fault_of layer.Run 51 i n))
+place_of i n = cond (nat_le 1 i && nat_le i n) (Ok (i - 1)) (Err (fault_of rule.RowInTable i n))
 
 -- release: 52 before the row's next release is due
 
 abbrev pub admit : ℕ → ℕ → RowState → Result Unit Fault
-admit i clock r = cond (nat_le r.next clock) (Ok tt) (Err (fault_of layer.Run 52 i (r.next - clock)))
+admit i clock r = cond (nat_le r.next clock) (Ok tt) (Err (fault_of rule.PeriodPassed i (r.next - clock)))
 
 abbrev pub release_answer : {S : Type 0} → ℕ → RunState S → Result Unit Fault
 release_answer i st = and_then (place_of i (length st.rows)) (λ k. admit i st.clock (state_at st.rows k))
@@ -58,7 +58,7 @@ after_release i st = unless_refused (release_answer i st) (with_rows st (change 
 -- end: 53 where the row has no job
 
 abbrev pub age_of : ℕ → ℕ → Option Active → Result ℕ Fault
-age_of i clock None = Err (fault_of layer.Run 53 i 0)
+age_of i clock None = Err (fault_of rule.JobPending i 0)
 age_of i clock (Some a) = Ok (clock - a.job.release)
 
 abbrev pub end_answer : {S : Type 0} → ℕ → RunState S → Result ℕ Fault
@@ -89,7 +89,7 @@ module _ {S : Type 0} (step : S → Bool → (Grant × S)) (goes : Goes) where
   }
 
   abbrev pub tick_answer : Bool → RunState S → Result Ticked Fault
-  tick_answer offer st = cond (nat_lt st.clock last_clock) (Ok (ticked offer st)) (Err (fault_of layer.Run 54 0 0))
+  tick_answer offer st = cond (nat_lt st.clock last_clock) (Ok (ticked offer st)) (Err (fault_of rule.ClockGoesOn 0 0))
 
   abbrev pub passed : Bool → RunState S → RunState S
   passed offer st = record {
@@ -113,21 +113,21 @@ look_answer st = record { clock = st.clock; granted = st.granted; ran = st.ran; 
 
 abbrev pub pending_answer : {S : Type 0} → ℕ → RunState S → Result ℕ Fault
 pending_answer room st =
-    cond (nat_le (length (jobs_of st.rows)) room) (Ok (length (jobs_of st.rows))) (Err (fault_of layer.Run 55 (length (jobs_of st.rows)) room))
+    cond (nat_le (length (jobs_of st.rows)) room) (Ok (length (jobs_of st.rows))) (Err (fault_of rule.RoomForJobs (length (jobs_of st.rows)) room))
 
 -- any call
 
-abbrev pub replied : {A : Type 0} → (A → Reply) → Result A Fault → Reply
-replied say (Ok x) = say x
-replied say (Err f) = told.Refused f
+-- its answer, or the fault that it is refused with
+abbrev pub Reply : Type 0
+Reply = Result Answer Fault
 
 module _ {S : Type 0} (step : S → Bool → (Grant × S)) (goes : Goes) where
   abbrev pub reply : Call → RunState S → Reply
-  reply (call.Release i) st = replied (λ _. told.Released) (release_answer i st)
-  reply (call.End i) st = replied told.Ended (end_answer i st)
-  reply (call.Tick offer) st = replied told.Ticked (tick_answer step goes offer st)
-  reply call.Look st = told.Looked (look_answer st)
-  reply (call.Pending room) st = replied told.Pending (pending_answer room st)
+  reply (call.Release i) st = map_ok (λ _. told.Released) (release_answer i st)
+  reply (call.End i) st = map_ok told.Ended (end_answer i st)
+  reply (call.Tick offer) st = map_ok told.Ticked (tick_answer step goes offer st)
+  reply call.Look st = Ok (told.Looked (look_answer st))
+  reply (call.Pending room) st = map_ok told.Pending (pending_answer room st)
 
   abbrev pub after : Call → RunState S → RunState S
   after (call.Release i) st = after_release i st

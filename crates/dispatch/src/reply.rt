@@ -15,7 +15,7 @@ pub enum Progress {
 }
 
 impl Progress {
-    // 1 to 4, in the order above.
+    // 1 to 4, in the order above; by cases, since variants that hold values have no numbers of their own.
     pub fn number(self) -> u32
         ensures { result ≡ progress_number self }
     {
@@ -27,15 +27,13 @@ impl Progress {
         }
     }
 
-    // The row that ran, or 0.
+    // The row that ran, or 0: the form of an answer has 0 where there is none, here and below.
     pub fn row(self) -> u32
         ensures { result ≡ progress_row self }
     {
         match self {
-            Progress::Withheld => 0,
-            Progress::Idle => 0,
-            Progress::Ran(row) => row,
-            Progress::Ended(row, _) => row,
+            Progress::Withheld | Progress::Idle => 0,
+            Progress::Ran(row) | Progress::Ended(row, _) => row,
         }
     }
 
@@ -44,15 +42,14 @@ impl Progress {
         ensures { result ≡ progress_age self }
     {
         match self {
-            Progress::Withheld => 0,
-            Progress::Idle => 0,
-            Progress::Ran(_) => 0,
+            Progress::Withheld | Progress::Idle | Progress::Ran(_) => 0,
             Progress::Ended(_, age) => age,
         }
     }
 }
 
-// What a tick answers: what it was, how many jobs were struck off as missed, and the lowest of their rows, or 0.
+// What a tick answers: what it was, how many jobs were struck off as missed, and the lowest of their rows, or 0 where
+// there is none, as the form of the answer has it.
 #[derive(Clone, Copy, PartialEq, Eq, Debug)]
 pub struct Ticked {
     pub progress: Progress,
@@ -69,14 +66,16 @@ pub struct Looked {
     pub idle: u32,
 }
 
-// What a call answers: the age of the job that an end removes, what a tick or a look answers, the number of pending
-// jobs, or a refusal.
+// What an accepted call answers: the age of the job that an end removes, what a tick or a look answers, or the number of
+// pending jobs.
 #[derive(Clone, Copy, PartialEq, Eq, Debug)]
-pub enum Reply {
+pub enum Answer {
     Released,
     Ended(u32),
     Ticked(Ticked),
     Looked(Looked),
     Pending(usize),
-    Refused(Fault),
 }
+
+// What a call is replied: its answer, or the fault that it is refused with.
+pub type Reply = Result<Answer, Fault>;

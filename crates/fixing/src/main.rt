@@ -3,16 +3,18 @@
 
 use decision::Responses;
 use fault::Fault;
-use names::step_name;
-use report::{Policy, Task, Verdict, read_task};
+use report::{Task, Verdict, read_task};
 use std::io;
 use std::io::Read;
 use table::Row;
+use words::{Reason, Step};
 
 mod names;
+mod words;
 
-// One byte more than the longest text tells that the input is too long.
-const ENOUGH: u64 = 426;
+// One byte more than the longest text tells that the input is too long. `verdict` reads as this program does: a library
+// does not read, and a crate for these lines would be longer.
+const ENOUGH: u64 = text::LONGEST as u64 + 1;
 
 fn main(rt: HostRuntime) -> io::Result<()> {
     let mut bytes = Vec::new(rt.alloc());
@@ -26,14 +28,10 @@ fn main(rt: HostRuntime) -> io::Result<()> {
 fn tell_task(rt: HostRuntime, task: &Task) -> io::Result<()> {
     let rows = task.table.rows();
     let count = rows.len();
-    let policy = match task.policy {
-        Policy::FixedPriority => "fixed priority",
-        Policy::EarliestDeadline => "earliest deadline",
-    };
     let budget = task.server.budget();
     let period = task.server.period();
     println!(rt; "Rows read: {count}.")?;
-    println!(rt; "Order: {policy}.")?;
+    println!(rt; "Order: {}.", task.policy)?;
     println!(rt; "Reservation: {budget} of every {period} ticks.")?;
     println!(rt; "")?;
     match task.decide() {
@@ -55,14 +53,9 @@ fn tell_verdict(rt: HostRuntime, rows: &[Row], verdict: Verdict) -> io::Result<(
 // Every row, with its response beside its deadline.
 fn tell_responses(rt: HostRuntime, rows: &[Row], responses: &Responses) -> io::Result<()> {
     println!(rt; "row  step            cost  period  response  deadline  (ticks)")?;
-    let mut number: u32 = 0;
-    for (row, response) in rows.iter().zip(responses.times().iter()) {
-        number = number.wrapping_add(1);
-        let name = step_name(number);
-        println!(rt;
-            "{number:>3}  {name:<12}  {:>6}  {:>6}  {response:>8}  {:>8}",
-            row.cost, row.period, row.deadline
-        )?;
+    for (number, (row, response)) in (1..).zip(rows.iter().zip(responses.times())) {
+        let step = Step { number, row };
+        println!(rt; "{step}  {response:>8}  {:>8}", row.deadline)?;
     }
     println!(rt; "")?;
     println!(rt; "Accepted: each step's response is within its deadline.")
@@ -77,36 +70,19 @@ fn tell_window(rt: HostRuntime, rows: &[Row], window: u32) -> io::Result<()> {
 
 fn tell_rows(rt: HostRuntime, rows: &[Row]) -> io::Result<()> {
     println!(rt; "row  step            cost  period  deadline  (ticks)")?;
-    let mut number: u32 = 0;
-    for row in rows {
-        number = number.wrapping_add(1);
-        let name = step_name(number);
-        println!(rt;
-            "{number:>3}  {name:<12}  {:>6}  {:>6}  {:>8}",
-            row.cost, row.period, row.deadline
-        )?;
+    for (number, row) in (1..).zip(rows) {
+        let step = Step { number, row };
+        println!(rt; "{step}  {:>8}", row.deadline)?;
     }
     println!(rt; "")
 }
 
 // Why it was refused, and where.
 fn tell_refusal(rt: HostRuntime, fault: Fault) -> io::Result<()> {
-    let number = fault.number;
-    let layer = fault.layer.number();
-    let (first, second) = fault.place;
-    print!(rt; "Refused with fault {number} in layer {layer}: ")?;
-    match number {
-        11 => println!(rt; "the text is not 1 to 17 whole lines of 25 bytes."),
-        12 => println!(rt; "line {first} does not end in a line feed."),
-        13 => println!(rt; "field {second} of line {first} is not a right-justified number."),
-        14 => println!(rt; "the order is neither 1 nor 2."),
-        21 => println!(rt; "{first} of every {second} ticks cannot be reserved."),
-        32 => println!(rt; "row {first}, {}, breaks its bounds.", step_name(first)),
-        41 => println!(rt;
-            "row {first}, {}, can take longer than its deadline of {second} ticks.",
-            step_name(first)
-        ),
-        42 => println!(rt; "in {second} ticks more work can be due than the supply promises."),
-        _ => println!(rt; "the busy window does not close within {second} ticks."),
-    }
+    let number = fault.number();
+    let layer = fault.layer().number();
+    println!(rt;
+        "Refused with fault {number} in layer {layer}: {}",
+        Reason(fault)
+    )
 }

@@ -40,7 +40,7 @@ impl Order for EarliestDeadline {
     }
 
     fn goes_first(&self, a: (u32, u32), b: (u32, u32)) -> bool {
-        a.0 < b.0 || a.0 == b.0 && a.1 < b.1
+        a < b
     }
 
     fn test<S: Supply>(&self, table: &Table, supply: &S) -> Result<u32, Fault> {

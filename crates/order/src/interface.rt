@@ -1,6 +1,6 @@
 // What every order promises, and all that is known of one above this crate.
 ghost use Rattle.std.specs.Prelude.{◌≡◌, ℕ, Bool, true, not, List, Ok, Result, ◌≢◌};
-ghost use Rattle.fault.specs.declared.Fault.{Fault};
+ghost use Rattle.fault.specs.declared.fault.Fault.{Fault};
 ghost use Rattle.table.specs.declared.row.Row.{Row};
 ghost use Rattle.table.specs.Tables.{rows_of};
 ghost use Rattle.dispatch.specs.declared.job.Job.{Job};

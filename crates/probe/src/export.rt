@@ -1,36 +1,43 @@
 // What C calls: a list crosses as a pointer and then a length.
-use crate::answer::refused;
+use crate::answer::numbers;
 use crate::measure::{busy_table, stretches};
 use crate::play::play;
-use crate::setting::{read_server, read_table};
-use crate::words::{put_answer, word};
+use crate::setting::{read_head, read_server, read_table};
+use crate::words::Written;
 use fault::Fault;
 use order::{EarliestDeadline, FixedPriority};
 use run::Run;
 use supply::PeriodicServer;
 
+// As C numbers the orders; any other number is earliest deadline.
 const FIXED_PRIORITY: u32 = 1;
 
-fn probe(script: &[u32], out: &mut [u32]) -> Result<usize, Fault> {
-    let server = read_server(script)?;
-    let table = read_table(script)?;
-    if word(script, 0) == FIXED_PRIORITY {
+// Makes the run of a script, carries out its calls and writes the replies.
+fn probe(script: &[u32], written: &mut Written<'_>) -> Result<(), Fault> {
+    let mut script = script.iter();
+    let head = read_head(&mut script);
+    let server = read_server(head, &mut script)?;
+    let table = read_table(head, &mut script)?;
+    // A run's type names its order, so this choice and that of `ticks` are two: one would take a trait for what follows.
+    if head.order == FIXED_PRIORITY {
         let mut run = Run::new(&table, server, FixedPriority {});
-        Ok(play(&mut run, script, out))
+        play(&mut run, head.calls, &mut script, written);
     } else {
         let mut run = Run::new(&table, server, EarliestDeadline {});
-        Ok(play(&mut run, script, out))
+        play(&mut run, head.calls, &mut script, written);
     }
+    Ok(())
 }
 
 // Makes the run of a script, carries out its calls and writes their answers; tells how many numbers that took. Where
 // the server or a row is refused, that is the only answer.
 #[unsafe(no_mangle)]
 pub extern "C" fn timerdaisy_probe(script: &[u32], out: &mut [u32]) -> usize {
-    match probe(script, out) {
-        Ok(written) => written,
-        Err(fault) => put_answer(out, 0, refused(fault)),
+    let mut written = Written::new(out);
+    if let Err(fault) = probe(script, &mut written) {
+        written.put_all(numbers(Err(fault)));
     }
+    written.count()
 }
 
 fn ticks(order: u32, rows: u32, ticks: u32) -> Result<u64, Fault> {
@@ -45,11 +52,9 @@ fn ticks(order: u32, rows: u32, ticks: u32) -> Result<u64, Fault> {
     }
 }
 
-// Passes so many ticks of a run with so many rows pending, and tells the sum of all that they told.
+// Passes so many ticks of a run with so many rows pending, and tells the sum of all that they told; 0 for a refusal, as C
+// has it.
 #[unsafe(no_mangle)]
 pub extern "C" fn timerdaisy_ticks(order: u32, rows: u32, count: u32) -> u64 {
-    match ticks(order, rows, count) {
-        Ok(sum) => sum,
-        Err(_) => 0,
-    }
+    ticks(order, rows, count).unwrap_or(0)
 }

@@ -23,11 +23,11 @@ pub(crate) fn busy_table(rows: u32) -> Result<Table, Fault> {
 // All that a tick told, in one number.
 fn weighed(ticked: Ticked) -> u64 {
     let progress = ticked.progress;
-    let ran = (progress.number() as u64).wrapping_add((progress.row() as u64).wrapping_mul(5));
-    let aged = ran.wrapping_add((progress.age() as u64).wrapping_mul(7));
-    let missed = (ticked.missed as u64).wrapping_mul(11);
+    let ran = u64::from(progress.number()).wrapping_add(u64::from(progress.row()).wrapping_mul(5));
+    let aged = ran.wrapping_add(u64::from(progress.age()).wrapping_mul(7));
+    let missed = u64::from(ticked.missed).wrapping_mul(11);
     aged.wrapping_add(missed)
-        .wrapping_add((ticked.lowest as u64).wrapping_mul(13))
+        .wrapping_add(u64::from(ticked.lowest).wrapping_mul(13))
 }
 
 // A stretch of ticks, and the sum of all that they told.

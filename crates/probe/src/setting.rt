@@ -1,45 +1,49 @@
 // What a run is made of, read from a script: its order, Q, P, the number of offers, of rows and of calls; then each
 // offer; then C, T, D of each row; then the calls.
-use crate::words::word;
+use crate::words::next;
 use fault::Fault;
+use std::slice::Iter;
 use supply::{PeriodicServer, Supply};
 use table::Table;
 
-const HEAD: usize = 6;
+// The six numbers that a script begins with.
+#[derive(Clone, Copy)]
+pub(crate) struct Head {
+    pub order: u32,
+    pub budget: u32,
+    pub period: u32,
+    pub offers: u32,
+    pub rows: u32,
+    pub calls: u32,
+}
+
+pub(crate) fn read_head(script: &mut Iter<'_, u32>) -> Head {
+    Head {
+        order: next(script),
+        budget: next(script),
+        period: next(script),
+        offers: next(script),
+        rows: next(script),
+        calls: next(script),
+    }
+}
 
 // The server, after a tick with each of the offers.
-pub(crate) fn read_server(script: &[u32]) -> Result<PeriodicServer, Fault> {
-    let mut server = PeriodicServer::new(word(script, 1), word(script, 2))?;
-    for i in 0..offers(script) {
-        let _ = server.tick(word(script, HEAD.wrapping_add(i)) != 0);
+pub(crate) fn read_server(head: Head, script: &mut Iter<'_, u32>) -> Result<PeriodicServer, Fault> {
+    let mut server = PeriodicServer::new(head.budget, head.period)?;
+    for _ in 0..head.offers {
+        let _ = server.tick(next(script) != 0);
     }
     Ok(server)
 }
 
-pub(crate) fn read_table(script: &[u32]) -> Result<Table, Fault> {
+pub(crate) fn read_table(head: Head, script: &mut Iter<'_, u32>) -> Result<Table, Fault> {
     let mut table = Table::new();
-    let from = HEAD.wrapping_add(offers(script));
-    for i in 0..rows(script) {
-        let place = from.wrapping_add(i.wrapping_mul(3));
-        let cost = word(script, place);
-        let period = word(script, place.wrapping_add(1));
-        let deadline = word(script, place.wrapping_add(2));
+    for _ in 0..head.rows {
+        let cost = next(script);
+        let period = next(script);
+        let deadline = next(script);
         table.add(cost, period, deadline)?;
     }
     Ok(table)
-}
-
-fn offers(script: &[u32]) -> usize {
-    word(script, 3) as usize
-}
-
-fn rows(script: &[u32]) -> usize {
-    word(script, 4) as usize
-}
-
-// How many calls there are, and where the first stands.
-pub(crate) fn calls(script: &[u32]) -> (usize, usize) {
-    let after_rows = rows(script).wrapping_mul(3);
-    let first = HEAD.wrapping_add(offers(script)).wrapping_add(after_rows);
-    (word(script, 5) as usize, first)
 }

@@ -21,6 +21,9 @@ use table::Table;
 //   limit.
 // - If the busy window closes at l, then among any l ticks in a row one ends with nothing pending.
 // - No job is lost or made up, and the counters are what the ticks answered.
+//
+// The supply's step and the order's relation are written out in the clauses: a definition in specs/ has no bounds to take
+// them from.
 pub fn replay<S: Supply + Drop, O: Order + Drop>(
     heap: Global,
     table: &Table,
@@ -36,8 +39,8 @@ pub fn replay<S: Supply + Drop, O: Order + Drop>(
 {
     let mut run = Run::new(table, supply, order);
     let mut replies = Vec::new(heap);
-    for i in 0..calls.len() {
-        replies.push(run.reply(calls[i]))?;
+    for call in calls {
+        replies.push(run.reply(*call))?;
     }
     Ok(replies)
 }

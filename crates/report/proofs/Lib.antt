@@ -1,4 +1,5 @@
 pub mod Rows
+pub mod Lines
 pub mod Reportable
 pub mod Writing
 pub mod Unique

@@ -3,9 +3,10 @@ use Rattle.std.proofs.Common.{◌≡◌, ℕ, ◌+◌, ◌<◌, ◌≤◌, List,
 use Rattle.std.specs.List.{range_with_len}
 use Rattle.std.proofs.lemmas.List.FromFn.{length-map-range_with_len, get_or-map-range_with_len}
 use Rattle.std.proofs.ByRecursion.{All-from_get_or}
-use Rattle.fault.specs.declared.Fault.{Fault}
-use Rattle.fault.specs.declared.Layer.{Layer}
-use Rattle.fault.specs.Layers.{fault_of}
+use Rattle.fault.specs.declared.fault.Fault.{Fault}
+use Rattle.fault.specs.declared.rule.Rule.{Rule}
+use Rattle.fault.specs.declared.rule.Rule.TheVariants as rule
+use Rattle.fault.specs.Rules.{fault_of, rule_number}
 use Rattle.fault.specs.Steps.{map_ok}
 use Rattle.text.specs.declared.triple.Triple.{Triple}
 use Rattle.text.specs.Fields.{Fits}
@@ -19,8 +20,8 @@ use Rattle.table.specs.Sums.{row_at}
 use Rattle.table.specs.Tables.{rows_of}
 use Rattle.decision.specs.Decisions.{Prioritised, Scheduled}
 use Rattle.decision.specs.Responses.{responses_of}
-use Rattle.report.specs.declared.policy.Policy.{Policy}
-use Rattle.report.specs.declared.policy.Policy.TheVariants.{FixedPriority, EarliestDeadline}
+use Rattle.text.specs.declared.policy.Policy.{Policy}
+use Rattle.text.specs.declared.policy.Policy.TheVariants.{FixedPriority, EarliestDeadline}
 use Rattle.report.specs.declared.task.Task.{Task}
 use Rattle.report.specs.declared.verdict.Verdict.{Verdict}
 use Rattle.report.specs.declared.verdict.Verdict.TheVariants.{Responses, Window}
@@ -37,20 +38,20 @@ Reportable ts = Writable ts 425
 fault_reportable : (f : Fault) → Printable f → Reportable (report_lines (Err f))
 fault_reportable f p = record { roomy = omega arith; some = omega arith; few = omega arith; fits = (p, tt) }
 
-place_printable : (layer : Layer) (number first second : ℕ) → Fits number → Fits first → Fits second → (f : Fault) → f ≡ fault_of layer number first second → Printable f
-place_printable layer number first second n a b f is = subst Printable (sym is) (n, a, b)
+place_printable : (broken : Rule) (first second : ℕ) → Fits (rule_number broken) → Fits first → Fits second → (f : Fault) → f ≡ fault_of broken first second → Printable f
+place_printable broken first second n a b f is = subst Printable (sym is) (n, a, b)
 
 -- the decisions' faults and verdicts
 
 priority_printable : (rs : List Row) (B : ℕ → ℕ) (f : Fault) → length rs ≤ 16 → Prioritised rs B (Err f) → Printable f
 priority_printable rs B f few (i, lt, before, none, is) =
     let r : Row = row_at rs i in
-    place_printable _ 41 (i + 1) r.deadline (omega arith) (omega arith) (omega arith) f is
+    place_printable rule.RowInTime (i + 1) r.deadline (omega arith) (omega arith) (omega arith) f is
 
 schedule_printable : (rs : List Row) (B : ℕ → ℕ) (f : Fault) → Scheduled rs B (Err f) → Printable f
-schedule_printable rs B f (inl (none, is)) = place_printable _ 43 0 1000000 (omega arith) (omega arith) (omega arith) f is
+schedule_printable rs B f (inl (none, is)) = place_printable rule.WindowCloses 0 1000000 (omega arith) (omega arith) (omega arith) f is
 schedule_printable rs B f (inr (l, t, window, below, overload, is)) =
-    place_printable _ 42 0 t (omega arith) (omega arith) (omega (arith, window.to)) f is
+    place_printable rule.NoOverload 0 t (omega arith) (omega arith) (omega (arith, window.to)) f is
 
 responses_reportable : (rs : List Row) (B : ℕ → ℕ) (times : List ℕ) → length rs ≤ 16 → Prioritised rs B (Ok times) → Reportable (response_lines rs times)
 responses_reportable rs B times few (count, responses) =
@@ -89,9 +90,9 @@ spelled_reportable : (bs : List ℕ) (head : Triple) (rows : List Triple) → Sp
     → (said : Result (List Triple) Fault) → Said task said → Reportable (report_lines said)
 spelled_reportable bs head rows spells (Err f) (inl (out, is)) said told =
     let fits = spells.0.fits.0 in
-    subst (λ s. Reportable (report_lines s)) (sym told) (fault_reportable f (place_printable _ 21 head.second head.third (omega arith) fits.1 fits.2 f is))
+    subst (λ s. Reportable (report_lines s)) (sym told) (fault_reportable f (place_printable rule.Reservation head.second head.third (omega arith) fits.1 fits.2 f is))
 spelled_reportable bs head rows spells (Err f) (inr (range, (i, lt, before, broken, is))) said told =
-    subst (λ s. Reportable (report_lines s)) (sym told) (fault_reportable f (place_printable _ 32 (i + 1) 0 (omega arith) (omega (arith, spells.0.few)) (omega arith) f is))
+    subst (λ s. Reportable (report_lines s)) (sym told) (fault_reportable f (place_printable rule.RowBounds (i + 1) 0 (omega arith) (omega (arith, spells.0.few)) (omega arith) f is))
 spelled_reportable bs head rows spells (Ok task) (policy, server, are) said (v, decided, is) =
     verdict_reportable task.policy (rows_of task.table) _ v (omega (arith, rows_count (rows_of task.table) rows are, spells.0.few)) decided said is
 

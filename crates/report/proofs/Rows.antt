@@ -1,7 +1,7 @@
 -- The rows that triples write. Assumes nothing.
 use Rattle.std.proofs.Common.{◌≡◌, ℕ, ◌+◌, ◌-◌, ◌<◌, ◌≤◌, List, [], ◌∷◌, ◌++◌, map, length, get_or, take, drop, Ok, Result, sym, ap, ◌∙◌, subst, ap₂, arith}
 use Rattle.std.proofs.lemmas.List.{take_all, take_more, length-take-le, length-map, map_push, get_or-map, get_or-take}
-use Rattle.fault.specs.declared.Fault.{Fault}
+use Rattle.fault.specs.declared.fault.Fault.{Fault}
 use Rattle.text.specs.declared.triple.Triple.{Triple}
 use Rattle.text.specs.Reading.{table_read}
 use Rattle.table.specs.declared.row.Row.{Row}

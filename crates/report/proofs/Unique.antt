@@ -4,9 +4,9 @@ use mathlib.Core.HLevel.{is_prop→PathP}
 use native.Mathlib.Bridge.{le_prop}
 use Rattle.std.proofs.lemmas.List.{take_all}
 use Rattle.arith.proofs.Orders.{neither_below}
-use Rattle.fault.specs.declared.Fault.{Fault}
-use Rattle.fault.specs.declared.Layer.TheVariants as layer
-use Rattle.fault.specs.Layers.{fault_of}
+use Rattle.fault.specs.declared.fault.Fault.{Fault}
+use Rattle.fault.specs.declared.rule.Rule.TheVariants as rule
+use Rattle.fault.specs.Rules.{fault_of}
 use Rattle.fault.specs.Steps.{map_ok}
 use Rattle.text.specs.declared.triple.Triple.{Triple}
 use Rattle.text.specs.Reading.{table_read}
@@ -17,12 +17,12 @@ use Rattle.table.specs.Tables.{rows_of}
 use Rattle.decision.specs.Decisions.{Prioritised, Scheduled}
 use Rattle.decision.specs.Responses.{responses_of}
 use Rattle.decision.proofs.Unique.{one_priority, one_schedule}
-use Rattle.report.specs.declared.policy.Policy.{Policy}
-use Rattle.report.specs.declared.policy.Policy.TheVariants.{FixedPriority, EarliestDeadline}
+use Rattle.text.specs.declared.policy.Policy.{Policy}
+use Rattle.text.specs.declared.policy.Policy.TheVariants.{FixedPriority, EarliestDeadline}
 use Rattle.report.specs.declared.task.Task.{Task}
 use Rattle.report.specs.declared.verdict.Verdict.{Verdict}
 use Rattle.report.specs.declared.verdict.Verdict.TheVariants.{Responses, Window}
-use Rattle.report.specs.Policies.{policy_number}
+use Rattle.text.specs.Policies.{policy_number}
 use Rattle.report.specs.Tasks.{row_triple, RowsAre, SoundAt, FirstBroken, Asks, AsksAll}
 use Rattle.report.specs.Verdicts.{Decided}
 use Rattle.report.specs.Answers.{response_lines, window_lines, verdict_lines, Said}
@@ -65,7 +65,7 @@ none_broken rs ts f are (i, lt, before, broken, is) = broken (all_sound rs ts ar
 
 same_broken : (ts : List Triple) (f g : Fault) → FirstBroken ts f → FirstBroken ts g → f ≡ g
 same_broken ts f g (i, i_lt, i-before, i-broken, f-is) (j, j-lt, j-before, j-broken, g-is) =
-    f-is ∙ ap {B = Fault} (λ k. fault_of layer.Table 32 (k + 1) 0) (neither_below i j (λ h. i-broken (j-before i h)) (λ h. j-broken (i-before j h))) ∙ sym g-is
+    f-is ∙ ap {B = Fault} (λ k. fault_of rule.RowBounds (k + 1) 0) (neither_below i j (λ h. i-broken (j-before i h)) (λ h. j-broken (i-before j h))) ∙ sym g-is
 
 -- a decision is said in one way
 

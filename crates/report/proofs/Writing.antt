@@ -2,9 +2,9 @@
 use Rattle.std.proofs.Common.{◌≡◌, ℕ, ◌*◌, ◌<◌, ◌≤◌, List, ◌++◌, length, drop, Ok, Err, Result, sym, refl, ap, ◌∙◌, subst, ⊎_elim, arith}
 use Rattle.std.specs.List.{AllByRecursion}
 use Rattle.std.proofs.lemmas.Bool.{cases_lt, cond-true, lt-ltb}
-use Rattle.fault.specs.declared.Fault.{Fault}
-use Rattle.fault.specs.declared.Layer.TheVariants.{Text}
-use Rattle.fault.specs.Layers.{fault_of}
+use Rattle.fault.specs.declared.fault.Fault.{Fault}
+use Rattle.fault.specs.declared.rule.Rule.TheVariants.{RoomToWrite}
+use Rattle.fault.specs.Rules.{fault_of}
 use Rattle.fault.specs.Steps.{and_then}
 use Rattle.text.specs.declared.triple.Triple.{Triple}
 use Rattle.text.specs.Texts.{Fitting, text_of}
@@ -14,7 +14,7 @@ use Rattle.report.specs.Answers.{report_lines, Judged, Reported}
 use Rattle.report.proofs.Reportable.{judged_reportable}
 
 -- there is no room for the longest text
-short_checked : (ts : List Triple) (room : ℕ) → room < 425 → lines_checked ts room ≡ Err (fault_of Text 15 0 room)
+short_checked : (ts : List Triple) (room : ℕ) → room < 425 → lines_checked ts room ≡ Err (fault_of RoomToWrite 0 room)
 unfolding lines_checked
 short_checked ts room short = cond-true _ _ _ (lt-ltb room 425 short)
 
@@ -23,7 +23,7 @@ pub reported : (bs before after : List ℕ) (r : Result ℕ Fault) (ts : List Tr
 reported bs before after r ts said judged is written leaves =
     ⊎_elim
     (λ (short : length before < 425).
-    let refused : r ≡ Err (fault_of Text 15 0 (length before)) = written ∙ ap (λ (x : Result Unit Fault). and_then x (λ _. Ok (25 * length ts))) (short_checked ts (length before) short) in
+    let refused : r ≡ Err (fault_of RoomToWrite 0 (length before)) = written ∙ ap (λ (x : Result Unit Fault). and_then x (λ _. Ok (25 * length ts))) (short_checked ts (length before) short) in
     subst (Reported bs before after) (sym refused) (short, subst (λ x. Leaves x ts before after) refused leaves, refl))
     (λ (room : 425 ≤ length before).
     let can = judged_reportable bs said judged in

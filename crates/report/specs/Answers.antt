@@ -1,9 +1,9 @@
 -- The report on a table text. Assumes nothing.
 use Rattle.std.specs.Prelude.{◌≡◌, ℕ, ◌+◌, ◌*◌, ◌<◌, ◌≤◌, ◌⊎◌, List, [], ◌∷◌, ◌++◌, map, length, drop, Ok, Err, Result, slice_index}
 use Rattle.std.specs.List.{range_with_len}
-use Rattle.fault.specs.declared.Fault.{Fault}
-use Rattle.fault.specs.declared.Layer.TheVariants.{Text}
-use Rattle.fault.specs.Layers.{fault_of}
+use Rattle.fault.specs.declared.fault.Fault.{Fault}
+use Rattle.fault.specs.declared.rule.Rule.TheVariants.{RoomToWrite}
+use Rattle.fault.specs.Rules.{fault_number, fault_of}
 use Rattle.fault.specs.Steps.{map_ok}
 use Rattle.text.specs.declared.triple.Triple.{Triple}
 use Rattle.text.specs.Texts.{text_of}
@@ -23,7 +23,7 @@ triple x y z = record { first = x; second = y; third = z }
 
 -- a fault's number and place
 abbrev pub fault_line : Fault → Triple
-fault_line f = triple f.number f.place.0 f.place.1
+fault_line f = triple (fault_number f) f.place.0 f.place.1
 
 -- row i, counted from 0: its number counted from 1, its response and its deadline
 abbrev pub response_line : List Row → List ℕ → ℕ → Triple
@@ -65,7 +65,7 @@ Written bs before after n = (said : Result (List Triple) Fault) × Judged bs sai
 -- with room for 425 bytes a report of 1 to 17 lines is written; else it is refused with 15, and nothing is written
 abbrev pub Reported : List ℕ → List ℕ → List ℕ → Result ℕ Fault → Type 0
 Reported bs before after (Ok n) = (425 ≤ length before) × (25 ≤ n) × (n ≤ 425) × Written bs before after n
-Reported bs before after (Err f) = (length before < 425) × (after ≡ before) × (f ≡ fault_of Text 15 0 (length before))
+Reported bs before after (Err f) = (length before < 425) × (after ≡ before) × (f ≡ fault_of RoomToWrite 0 (length before))
 
 -- the same as a number: no report has 0 bytes
 abbrev pub Exported : List ℕ → List ℕ → List ℕ → ℕ → Type 0

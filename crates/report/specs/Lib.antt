@@ -1,4 +1,3 @@
-pub mod Policies
 pub mod Tasks
 pub mod Verdicts
 pub mod Answers

@@ -1,8 +1,8 @@
 -- What a table text asks to have decided, or the first fault in it. Assumes nothing.
 use Rattle.std.specs.Prelude.{◌≡◌, ℕ, ◌+◌, ◌<◌, ◌⊎◌, List, [], ◌∷◌, map, length, Ok, Err, Result, slice_index_or}
-use Rattle.fault.specs.declared.Fault.{Fault}
-use Rattle.fault.specs.declared.Layer.TheVariants as layer
-use Rattle.fault.specs.Layers.{fault_of}
+use Rattle.fault.specs.declared.fault.Fault.{Fault}
+use Rattle.fault.specs.declared.rule.Rule.TheVariants as rule
+use Rattle.fault.specs.Rules.{fault_of}
 use Rattle.text.specs.declared.triple.Triple.{Triple}
 use Rattle.text.specs.Reading.{table_read}
 use Rattle.supply.specs.Periodic.{InRange}
@@ -12,7 +12,7 @@ use Rattle.table.specs.declared.table.Table.{Table}
 use Rattle.table.specs.Rows.{InBounds}
 use Rattle.table.specs.Tables.{rows_of}
 use Rattle.report.specs.declared.task.Task.{Task}
-use Rattle.report.specs.Policies.{policy_number}
+use Rattle.text.specs.Policies.{policy_number}
 
 -- the three numbers of a row as a text has them: C, T and D
 abbrev pub row_triple : Row → Triple
@@ -31,7 +31,7 @@ SoundAt ts i = InBounds (slice_index_or ts i no_triple).first (slice_index_or ts
 
 -- 32 at the first row, counted from 1, that breaks its bounds
 abbrev pub FirstBroken : List Triple → Fault → Type 0
-FirstBroken ts f = (i : ℕ) × (i < length ts) × ((j : ℕ) → j < i → SoundAt ts j) × (SoundAt ts i → ⊥) × (f ≡ fault_of layer.Table 32 (i + 1) 0)
+FirstBroken ts f = (i : ℕ) × (i < length ts) × ((j : ℕ) → j < i → SoundAt ts j) × (SoundAt ts i → ⊥) × (f ≡ fault_of rule.RowBounds (i + 1) 0)
 
 abbrev pub RowsRead : List Triple → Result Table Fault → Type 0
 RowsRead ts (Ok table) = RowsAre (rows_of table) ts
@@ -42,7 +42,7 @@ abbrev pub Asks : Triple → List Triple → Result Task Fault → Type 0
 Asks head rows (Ok task) = (policy_number task.policy ≡ head.first)
     × ((h : InRange head.second head.third) × (task.server ≡ fresh head.second head.third h))
     × RowsAre (rows_of task.table) rows
-Asks head rows (Err f) = ((InRange head.second head.third → ⊥) × (f ≡ fault_of layer.Supply 21 head.second head.third))
+Asks head rows (Err f) = ((InRange head.second head.third → ⊥) × (f ≡ fault_of rule.Reservation head.second head.third))
     ⊎ (InRange head.second head.third × FirstBroken rows f)
 
 -- a fault of the text is passed on

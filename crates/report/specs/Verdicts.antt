@@ -1,11 +1,11 @@
 -- The decision on a task. Assumes nothing.
 use Rattle.std.specs.Prelude.{ℕ, List, Ok, Err, Result}
-use Rattle.fault.specs.declared.Fault.{Fault}
+use Rattle.fault.specs.declared.fault.Fault.{Fault}
 use Rattle.table.specs.declared.row.Row.{Row}
 use Rattle.decision.specs.Decisions.{Prioritised, Scheduled}
 use Rattle.decision.specs.Responses.{responses_of}
-use Rattle.report.specs.declared.policy.Policy.{Policy}
-use Rattle.report.specs.declared.policy.Policy.TheVariants.{FixedPriority, EarliestDeadline}
+use Rattle.text.specs.declared.policy.Policy.{Policy}
+use Rattle.text.specs.declared.policy.Policy.TheVariants.{FixedPriority, EarliestDeadline}
 use Rattle.report.specs.declared.verdict.Verdict.{Verdict}
 use Rattle.report.specs.declared.verdict.Verdict.TheVariants.{Responses, Window}
 

@@ -19,27 +19,27 @@ fn response_lines(table: &Table, responses: &Responses) -> Result<Lines, Fault>
     ensures { map_ok triples_of result ≡ Ok (response_lines (rows_of table.now) (responses_of responses.now)) }
 {
     let rows = table.rows();
-    let times = responses.times();
     let mut lines = Lines::one(Triple {
         first: 0,
         second: rows.len() as u32,
         third: 0,
     });
-    for i in 0..rows.len() {
+    for (i, (row, response)) in rows.iter().zip(responses.times()).enumerate() {
         lines.push(Triple {
             first: i as u32 + 1,
-            second: times[i],
-            third: rows[i].deadline,
+            second: *response,
+            third: row.deadline,
         })?;
     }
     Ok(lines)
 }
 
+// The line of a fault; no `From`, since faults and lines are both of crates below.
 fn fault_lines(fault: Fault) -> Lines
     ensures { triples_of result ≡ fault_line fault ∷ [] }
 {
     Lines::one(Triple {
-        first: fault.number,
+        first: fault.number(),
         second: fault.place.0,
         third: fault.place.1,
     })
@@ -65,9 +65,6 @@ fn judged(bytes: &[u8]) -> Result<Lines, Fault>
 pub fn report(bytes: &[u8], out: &mut [u8]) -> Result<usize, Fault>
     ensures { Reported bytes.now out.old out.new result }
 {
-    let lines = match judged(bytes) {
-        Ok(lines) => lines,
-        Err(fault) => fault_lines(fault),
-    };
+    let lines = judged(bytes).unwrap_or_else(fault_lines);
     write_lines(lines.triples(), out)
 }

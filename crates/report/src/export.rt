@@ -7,8 +7,5 @@ use crate::answer::report;
 pub fn timerdaisy_report(text: &[u8], out: &mut [u8]) -> usize
     ensures { Exported text.now out.old out.new result }
 {
-    match report(text, out) {
-        Ok(written) => written,
-        Err(_) => 0,
-    }
+    report(text, out).unwrap_or(0)
 }

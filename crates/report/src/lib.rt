@@ -8,12 +8,11 @@
 pub mod answer;
 pub mod determined;
 pub mod export;
-pub mod policy;
 pub mod task;
 pub mod verdict;
 
 pub use answer::report;
 pub use export::timerdaisy_report;
-pub use policy::Policy;
 pub use task::{Task, read_task};
+pub use text::Policy;
 pub use verdict::Verdict;

@@ -2,11 +2,10 @@
 ghost use Rattle.std.specs.Prelude.{◌≤◌, length};
 ghost use Rattle.report.specs.Tasks.{RowsRead, TaskRead};
 
-use crate::policy::Policy;
 use fault::Fault;
 use supply::PeriodicServer;
 use table::Table;
-use text::{Triple, read_table};
+use text::{Policy, Triple, read_table};
 
 #[derive(Clone, Copy)]
 pub struct Task {
@@ -34,7 +33,7 @@ pub fn read_task(bytes: &[u8]) -> Result<Task, Fault>
     let lines = read_table(bytes)?;
     let triples = lines.triples();
     let head = triples[0];
-    let policy = Policy::of(head.first);
+    let policy = Policy::try_from(head.first)?;
     let server = PeriodicServer::new(head.second, head.third)?;
     let table = read_rows(&triples[1..])?;
     Ok(Task {

@@ -3,10 +3,10 @@ ghost use Rattle.table.specs.Tables.{rows_of};
 ghost use Rattle.supply.specs.Server.{server_bound};
 ghost use Rattle.report.specs.Verdicts.{Decided};
 
-use crate::policy::Policy;
 use crate::task::Task;
 use decision::{Responses, earliest_deadline, fixed_priority};
 use fault::Fault;
+use text::Policy;
 
 // What an accepted task is told: the response of each row, or the busy window.
 #[derive(Clone, Copy)]

@@ -32,7 +32,7 @@ progress_granted grant.Granted o clock = refl
 pub chosen_servable : (clock n : ℕ) (rows : List RowState) (g : Grant) (chosen : Option Active) → length rows ≡ n → Orderly clock 1 rows → First g rows chosen
     → IfSome chosen (Servable (clock + 1) n)
 chosen_servable clock n rows g None long orderly f = tt
-chosen_servable clock n rows grant.Withheld (Some a) long orderly f = let z : ◌≡◌ {A = ℕ} 0 1 = cc f.1 in absurd (omega arith)
+chosen_servable clock n rows grant.Withheld (Some a) long orderly f = absurd (cc f.1)
 chosen_servable clock n rows grant.Granted (Some a) long orderly f =
     let at = chosen_row f.0 clock rows a orderly (sym f.1) in
     let job = subst (OrderlyJob clock (a.job.row - 1 + 1) (state_at rows (a.job.row - 1))) at.1 (orderly_at clock rows orderly (a.job.row - 1) at.0) in record {

@@ -1,73 +1,65 @@
--- What striking off comes to, as the code does it, from the last row to the first. Assumes nothing.
-use Rattle.std.proofs.Common.{◌≡◌, ℕ, zero, suc, ◌+◌, ◌<◌, Bool, true, false, cond, eqb, List, [], ◌∷◌, ◌++◌, length, get_or, take, drop, set, Some, None, Option, sym, refl, ap, ◌∙◌, arith}
+-- Striking off, as the code does it, from the first row to the last. Assumes nothing.
+use Rattle.std.proofs.Common.{◌≡◌, ℕ, zero, suc, ◌+◌, ◌<◌, Bool, true, false, cond, eqb, List, [], ◌∷◌, ◌++◌, map, length, get_or, take, drop, unwrap_or, Some, None, Option, sym, refl, ap, ◌∙◌, arith}
+use Rattle.std.specs.Option.{option_or}
 use Rattle.std.proofs.lemmas.List.{drop_more}
 use Rattle.std.proofs.lemmas.List.Sums.{sum_by-drop_more}
 use Rattle.dispatch.specs.declared.job.Active.{Active}
 use Rattle.dispatch.specs.declared.job.RowState.{RowState}
 use Rattle.dispatch.specs.Jobs.{with_active}
-use Rattle.dispatch.specs.Ticks.{kept, late, missed, lowest_of, lowest, struck}
+use Rattle.dispatch.specs.Ticks.{kept, late, missed, lowest_of, lowest}
 use Rattle.run.specs.Serving.{struck_row}
 
--- a row that is struck counts as one and is told
+abbrev pub strike_of : ℕ → RowState → RowState
+strike_of clock r = with_active (kept clock r.active) r
+
+-- a row that is struck counts as one and is told, and another is not
+
 pub struck_some : (clock row further : ℕ) (o : Option Active) → Some row ≡ struck_row clock o → (late clock o ≡ 1) × (lowest_of clock o further ≡ row)
-struck_some clock row further None e = let z : ◌≡◌ {A = ℕ} 0 1 = cc in absurd (omega arith)
+struck_some clock row further None e = absurd cc
 struck_some clock row further (Some a) e = by (eqb a.job.deadline clock) e
   where
     by : (b : Bool) → Some row ≡ cond b (Some a.job.row) None → (◌≡◌ {A = ℕ} (cond b 1 0) 1) × (cond b a.job.row further ≡ row)
     by true e = (refl, cc)
-    by false e = let z : ◌≡◌ {A = ℕ} 0 1 = cc in absurd (omega arith)
+    by false e = absurd cc
 
--- one row more, counted down
-module _ (clock k : ℕ) (rows : List RowState) (d : RowState) (lt : k < length rows) where
-  pub missed_down : missed clock (drop k rows) ≡ late clock (get_or rows k d).active + missed clock (drop (k + 1) rows)
-  missed_down = sum_by-drop_more (λ (r : RowState). late clock r.active) rows k d lt
+pub struck_none : (clock further : ℕ) (o : Option Active) → None ≡ struck_row clock o → (late clock o ≡ 0) × (lowest_of clock o further ≡ further)
+struck_none clock further None e = (refl, refl)
+struck_none clock further (Some a) e = by (eqb a.job.deadline clock) e
+  where
+    by : (b : Bool) → None ≡ cond b (Some a.job.row) None → (◌≡◌ {A = ℕ} (cond b 1 0) 0) × (cond b a.job.row further ≡ further)
+    by true e = absurd cc
+    by false e = (refl, refl)
 
-  pub lowest_down : lowest clock (drop k rows) ≡ lowest_of clock (get_or rows k d).active (lowest clock (drop (k + 1) rows))
-  lowest_down = ap (lowest clock) (drop_more rows k d lt)
-
--- the front as it was, and the rest struck
-abbrev pub half_struck : ℕ → ℕ → List RowState → List RowState
-half_struck clock i rows = take i rows ++ struck clock (drop i rows)
-
-abbrev strike_of : ℕ → RowState → RowState
-strike_of clock r = with_active (kept clock r.active) r
-
-pub half_at : (clock k : ℕ) (rows : List RowState) (d : RowState) → k < length rows → get_or (half_struck clock (suc k) rows) k d ≡ get_or rows k d
-half_at clock k [] d lt = absurd (omega arith)
+-- a row that is still to be struck is as it was
+half_at : (clock i : ℕ) (rows : List RowState) (d : RowState) → i < length rows → get_or (map (strike_of clock) (take i rows) ++ drop i rows) i d ≡ get_or rows i d
+half_at clock i [] d lt = absurd (omega arith)
 half_at clock zero (r ∷ rows) d lt = refl
-half_at clock (suc k) (r ∷ rows) d lt = half_at clock k rows d (omega arith)
+half_at clock (suc i) (r ∷ rows) d lt = half_at clock i rows d (omega arith)
 
-pub half_down : (clock k : ℕ) (rows : List RowState) (d : RowState) → k < length rows → set (half_struck clock (suc k) rows) k (strike_of clock (get_or rows k d)) ≡ half_struck clock k rows
-half_down clock k [] d lt = absurd (omega arith)
-half_down clock zero (r ∷ rows) d lt = refl
-half_down clock (suc k) (r ∷ rows) d lt = ap (λ rs. r ∷ rs) (half_down clock k rows d (omega arith))
+-- a turn of the loop, at row i
+module _ (clock i : ℕ) (rows now : List RowState) (r : RowState) (lt : i < length rows) (half : now ≡ map (strike_of clock) (take i rows) ++ drop i rows)
+    (read : r ≡ get_or now i r) where
+  is : r ≡ get_or rows i r
+  is = read ∙ ap (λ rs. get_or rs i r) half ∙ half_at clock i rows r lt
 
--- one turn of the loop, from row k + 1 to row k, which holds x
-module _ (clock k i : ℕ) (rows now : List RowState) (d last : RowState) (lt : k < length rows) (next : i ≡ k + 1)
-    (so : now ≡ half_struck clock i rows) (struck_off : last ≡ strike_of clock (get_or now k d)) where
-  up : i ≡ suc k
-  up = omega arith
+  missed_next : missed clock (drop i rows) ≡ late clock r.active + missed clock (drop (i + 1) rows)
+  missed_next = sum_by-drop_more (λ (x : RowState). late clock x.active) rows i r lt ∙ ap (λ (x : RowState). late clock x.active + missed clock (drop (i + 1) rows)) (sym is)
 
-  here : get_or now k d ≡ get_or rows k d
-  here = ap (λ rs. get_or rs k d) so ∙ ap (λ m. get_or (half_struck clock m rows) k d) up ∙ half_at clock k rows d lt
+  lowest_next : lowest clock (drop i rows) ≡ lowest_of clock r.active (lowest clock (drop (i + 1) rows))
+  lowest_next = ap (lowest clock) (drop_more rows i r lt) ∙ ap (λ (x : RowState). lowest_of clock x.active (lowest clock (drop (i + 1) rows))) (sym is)
 
-  pub turn_rows : set now k last ≡ half_struck clock k rows
-  turn_rows =
-      ap (set now k) (struck_off ∙ ap (strike_of clock) here)
-      ∙ ap (λ rs. set rs k (strike_of clock (get_or rows k d))) (so ∙ ap (λ m. half_struck clock m rows) up)
-      ∙ half_down clock k rows d lt
+  pub turn_some : (row : ℕ) (o : Option ℕ) → Some row ≡ struck_row clock r.active
+      → (missed clock (drop i rows) ≡ 1 + missed clock (drop (i + 1) rows)) × ((further : ℕ) → unwrap_or (option_or o (Some row)) further ≡ unwrap_or o (lowest clock (drop i rows)))
+  turn_some row o e =
+      let s = struck_some clock row (lowest clock (drop (i + 1) rows)) r.active e in
+      (omega (arith, missed_next, s.0), λ further. told o further ∙ ap (unwrap_or o) (sym (lowest_next ∙ s.1)))
+    where
+      told : (o : Option ℕ) (further : ℕ) → unwrap_or (option_or o (Some row)) further ≡ unwrap_or o row
+      told None further = refl
+      told (Some x) further = refl
 
-  module _ (missed_so lowest_so : ℕ) (count : missed_so ≡ missed clock (drop i rows)) (tell : lowest_so ≡ lowest clock (drop i rows)) where
-    count_next : missed_so ≡ missed clock (drop (k + 1) rows)
-    count_next = count ∙ ap (λ m. missed clock (drop m rows)) next
-
-    tell_next : lowest_so ≡ lowest clock (drop (k + 1) rows)
-    tell_next = tell ∙ ap (λ m. lowest clock (drop m rows)) next
-
-    pub turn_some : (row : ℕ) → Some row ≡ struck_row clock (get_or now k d).active
-        → (missed_so + 1 ≡ missed clock (drop k rows)) × (row ≡ lowest clock (drop k rows))
-    turn_some row e =
-        let both = struck_some clock row lowest_so (get_or rows k d).active (e ∙ ap (λ (r : RowState). struck_row clock r.active) here) in (
-          omega (arith, missed_down clock k rows d lt, count_next, both.0),
-          sym both.1 ∙ ap (lowest_of clock (get_or rows k d).active) tell_next ∙ sym (lowest_down clock k rows d lt),
-        )
+  pub turn_none : None ≡ struck_row clock r.active
+      → (missed clock (drop i rows) ≡ missed clock (drop (i + 1) rows)) × (lowest clock (drop i rows) ≡ lowest clock (drop (i + 1) rows))
+  turn_none e =
+      let s = struck_none clock (lowest clock (drop (i + 1) rows)) r.active e in
+      (omega (arith, missed_next, s.0), lowest_next ∙ s.1)

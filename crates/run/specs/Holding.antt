@@ -1,8 +1,9 @@
 -- What a dispatcher holds, as plain data. Assumes nothing.
-use Rattle.std.specs.Prelude.{ℕ, ◌+◌, cond, List, take, Ok, Err, Option, Result, nat_lt}
-use Rattle.fault.specs.declared.Fault.{Fault}
-use Rattle.fault.specs.declared.Layer.TheVariants as layer
-use Rattle.fault.specs.Layers.{fault_of}
+use Rattle.std.specs.Prelude.{ℕ, ◌+◌, cond, List, Ok, Err, Option, Result, nat_lt}
+use Rattle.fault.specs.declared.fault.Fault.{Fault}
+use Rattle.fault.specs.declared.rule.Rule.TheVariants as rule
+use Rattle.fault.specs.Rules.{fault_of}
+use Rattle.bounded.specs.Items.{items_of}
 use Rattle.supply.specs.declared.grant.Grant.{Grant}
 use Rattle.dispatch.specs.declared.job.Active.{Active}
 use Rattle.dispatch.specs.declared.job.RowState.{RowState}
@@ -10,18 +11,14 @@ use Rattle.dispatch.specs.declared.reply.Ticked.{Ticked}
 use Rattle.dispatch.specs.Progresses.{granted_one, ran_one, idle_one}
 use Rattle.dispatch.specs.Ticks.{served, progress, struck, missed, lowest}
 use Rattle.dispatch.specs.Runs.{RunState, last_clock}
-use Rattle.run.specs.declared.rows.Rows.{Rows}
 use Rattle.run.specs.declared.dispatcher.Dispatcher.{Dispatcher}
-
-abbrev pub held : Rows → List RowState
-held r = take r.count r.states
 
 -- a run's state without its supply
 abbrev pub jobs_state : Dispatcher → RunState Unit
 jobs_state d = record {
   clock = d.clock;
   supply = tt;
-  rows = held d.rows;
+  rows = items_of d.rows;
   granted = d.counters.granted;
   ran = d.counters.ran;
   idle = d.counters.idle;
@@ -50,4 +47,4 @@ passed_by g chosen st = record {
 
 -- 54 at the last clock
 abbrev pub in_time_to_tick : ℕ → Result Unit Fault
-in_time_to_tick clock = cond (nat_lt clock last_clock) (Ok tt) (Err (fault_of layer.Run 54 0 0))
+in_time_to_tick clock = cond (nat_lt clock last_clock) (Ok tt) (Err (fault_of rule.ClockGoesOn 0 0))

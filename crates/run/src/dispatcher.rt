@@ -1,5 +1,6 @@
 // What a run holds besides its supply and its order: the rows with their pending jobs, the clock and the counters.
-ghost use Rattle.std.specs.Prelude.{◌≡◌, ◌≤◌, length, take};
+ghost use Rattle.std.specs.Prelude.{◌≤◌};
+ghost use Rattle.bounded.specs.Items.{items_of};
 ghost use Rattle.dispatch.specs.Orderly.{Orderly};
 
 use crate::counters::Counters;
@@ -14,9 +15,7 @@ pub(crate) struct Dispatcher {
     rows: Rows,
     clock: u32,
     counters: Counters,
-    ghost whole: { length rows.states ≡ 16 },
-    ghost few: { rows.count ≤ 16 },
     ghost early: { clock ≤ 4000000000 },
-    ghost orderly: { ∥ Orderly clock 1 (take rows.count rows.states) ∥₁ },
+    ghost orderly: { ∥ Orderly clock 1 (items_of rows) ∥₁ },
     ghost fewer: { counters.granted ≤ clock },
 }

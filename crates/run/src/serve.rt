@@ -27,20 +27,16 @@ fn leads<O: Order>(order: &O, a: &RowState, b: &RowState) -> bool
 pub(crate) fn first<O: Order>(order: &O, rows: &[RowState]) -> Option<Active>
     ensures { result ≡ first (goes_by O.keyed O.before order.now) rows.now }
 {
-    let count = rows.len();
-    if count == 0 {
-        return None;
-    }
-    let mut best = count - 1;
-    for i in (0..count - 1).rev() {
-        if leads(order, &rows[i], &rows[best]) {
-            best = i;
-        }
-    }
-    rows[best].active
+    let best = rows.iter().rev().reduce(|best, row| if leads(order, row, best) {
+        row
+    } else {
+        best
+    })?;
+    best.active
 }
 
-// Has the chosen job run for a granted tick that ends at this clock.
+// Has the chosen job run for a granted tick that ends at this clock. The four kinds of tick are one match with guards, as
+// the rules of the project ask.
 fn credit(rows: &mut [RowState], grant: Grant, chosen: Option<Active>, clock: u32) -> Progress
     requires { IfSome chosen (Servable clock (length rows.old)) }
     ensures rows { rows.new ≡ served grant chosen rows.old }
@@ -52,9 +48,8 @@ fn credit(rows: &mut [RowState], grant: Grant, chosen: Option<Active>, clock: u3
         (Grant::Granted, Some(active)) if active.ran + 1 < active.cost => {
             let row = active.job.row;
             rows[row as usize - 1].active = Some(Active {
-                job: active.job,
-                cost: active.cost,
                 ran: active.ran + 1,
+                ..active
             });
             Progress::Ran(row)
         }
@@ -88,17 +83,18 @@ fn strike(rows: &mut [RowState], clock: u32) -> (u32, u32)
     ensures lowest { result.1 ≡ lowest clock rows.old }
 {
     let mut missed: u32 = 0;
-    let mut lowest: u32 = 0;
-    for i in (0..rows.len()).rev() {
-        if let Some(row) = strike_row(&mut rows[i], clock) {
+    let mut lowest: Option<u32> = None;
+    for row in rows.iter_mut() {
+        if let Some(number) = strike_row(row, clock) {
             missed += 1;
-            lowest = row;
+            lowest = lowest.or(Some(number));
         }
     }
-    (missed, lowest)
+    (missed, lowest.unwrap_or(0))
 }
 
-// Passes a tick that ends at this clock: work is credited before deadlines are struck.
+// Passes a tick that ends at this clock: work is credited before deadlines are struck. The grant and the job that it
+// lets run stay two values: what a tick does is defined over both, and a struct of them would be taken apart here.
 pub(crate) fn pass(
     rows: &mut [RowState],
     grant: Grant,

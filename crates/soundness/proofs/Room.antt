@@ -6,7 +6,7 @@ use Rattle.std.proofs.lemmas.Bool.{cases_lt}
 use Rattle.supply.specs.declared.grant.Grant.{Grant}
 use Rattle.supply.specs.Grants.{spent}
 use Rattle.table.specs.declared.row.Row.{Row}
-use Rattle.table.specs.Sums.{total, requested, workload, row_at}
+use Rattle.table.specs.Sums.{requested, workload, row_at}
 use Rattle.dispatch.specs.declared.job.Active.{Active}
 use Rattle.dispatch.specs.declared.job.RowState.{RowState}
 use Rattle.dispatch.specs.Jobs.{with_active, change, released, cleared}
@@ -67,7 +67,7 @@ load_counted i e c k a before lt rows at =
 pub load_free : (i e c : ℕ) (rows : List RowState) → AllByRecursion Free (take i rows) → load i e c rows ≤ requested (take i (table_rows rows)) (e - c)
 unfolding requested
 load_free i e c rows free =
-    let front = ap (total ((all_work e).future (e - c))) (take-map (λ (r : RowState). r.row) i rows) in
+    let front = ap (sum_by ((all_work e).future (e - c))) (take-map (λ (r : RowState). r.row) i rows) in
     omega (arith, sum_by_quiet (all_work e) Free (λ r none. ap (wanted (all_work e).counts) none) c (take i rows) free)
 
 -- by some e within the limit the supply has room for this work beside the load

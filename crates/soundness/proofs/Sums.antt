@@ -1,16 +1,8 @@
 -- Sums over a list of which one element is changed, and over its front. Assumes nothing.
 use Rattle.std.proofs.Common.{◌≡◌, ℕ, zero, suc, ◌+◌, ◌<◌, ◌≤◌, List, [], ◌∷◌, length, get_or, take, refl, ap, sum_by, arith}
 use Rattle.std.proofs.lemmas.List.Sums.{sum_by-cons}
-use Rattle.table.specs.declared.row.Row.{Row}
-use Rattle.table.specs.Sums.{total}
 use Rattle.dispatch.specs.Jobs.{change}
 use Rattle.dispatch.proofs.Lists.{At}
-
--- the sum over the rows of a table is the sum over a list
-pub total-sum_by : (f : Row → ℕ) (rs : List Row) → total f rs ≡ sum_by f rs
-unfolding total
-total-sum_by f [] = refl
-total-sum_by f (r ∷ rs) = omega (arith, sum_by-cons f r rs, total-sum_by f rs)
 
 -- where the changed element weighs less by m, so does the list
 pub sum_by_change_at : {A : Type 0} (Q : A → Type 0) (f : A → ℕ) (g : A → A) (m : ℕ) → ((x : A) → Q x → f (g x) + m ≤ f x)

@@ -5,7 +5,6 @@ use Rattle.std.specs.List.{AllByRecursion}
 use Rattle.std.proofs.lemmas.List.Sums.{sum_by-le-sum_by}
 use Rattle.std.proofs.lemmas.Bool.{ltb-true, leb-true, cond_both}
 use Rattle.table.specs.declared.row.Row.{Row}
-use Rattle.table.specs.Sums.{total}
 use Rattle.table.proofs.Counts.{released_work, due_work, released_mono, due_mono, released_next, due_next}
 use Rattle.dispatch.specs.declared.job.Job.{Job}
 use Rattle.dispatch.specs.declared.job.Active.{Active}
@@ -15,7 +14,7 @@ use Rattle.dispatch.specs.Ticks.{worked, kept, struck}
 use Rattle.dispatch.proofs.Lists.{At, sum_by-map, sum_by_le_where}
 use Rattle.dispatch.proofs.Chosen.{Has}
 use Rattle.dispatch.proofs.Rows.{table_rows}
-use Rattle.soundness.proofs.Sums.{total-sum_by, sum_by_change_at, sum_by_change_any}
+use Rattle.soundness.proofs.Sums.{sum_by_change_at, sum_by_change_any}
 
 -- the ticks that a job still wants
 abbrev pub remaining : Active → ℕ
@@ -140,11 +139,10 @@ module _ {e : ℕ} (w : Weight e) where
 
   -- where none that counts is pending, nothing is asked for but what can be released
   pub sum_by_quiet : (Q : RowState → Type 0) → ((r : RowState) → Q r → wanted w.counts r.active ≡ 0)
-      → (c : ℕ) (rows : List RowState) → AllByRecursion Q rows → sum_by (asked c) rows ≤ total (w.future (e - c)) (table_rows rows)
+      → (c : ℕ) (rows : List RowState) → AllByRecursion Q rows → sum_by (asked c) rows ≤ sum_by (w.future (e - c)) (table_rows rows)
   sum_by_quiet Q none c rows all =
       omega (
         arith,
-        total-sum_by (w.future (e - c)) (table_rows rows),
         sum_by-map (w.future (e - c)) (λ (r : RowState). r.row) rows,
         sum_by_le_where Q (asked c) (λ r. w.future (e - c) r.row)
             (λ r q. omega (arith, none r q, w.rising (e - max c r.next) (e - c) (omega arith) r.row)) rows all,

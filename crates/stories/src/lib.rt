@@ -4,6 +4,8 @@
 #[cfg(test)]
 mod recordings;
 #[cfg(test)]
+mod refusal;
+#[cfg(test)]
 mod runs;
 #[cfg(test)]
 mod tests;

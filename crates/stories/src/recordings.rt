@@ -1,6 +1,7 @@
 // What support sees of a recording that is run again.
-use dispatch::{Call, Progress, Reply, Ticked};
-use fault::{Fault, Layer};
+use crate::refusal::refusal;
+use dispatch::{Answer, Call, Progress, Ticked};
+use fault::Layer;
 use std::test::Fail;
 use support::{Failure, replay_by_deadline};
 use table::Table;
@@ -23,15 +24,10 @@ fn a_recorded_day_is_run_again(rt: HostRuntime) -> Result<(), Fail> {
         missed: 0,
         lowest: 0,
     };
-    let no_row = Fault {
-        number: 51,
-        layer: Layer::Run,
-        place: (2, 1),
-    };
-    assert_eq!(rt; replies[0], Reply::Released);
-    assert_eq!(rt; replies[1], Reply::Refused(no_row));
-    assert_eq!(rt; replies[2], Reply::Ticked(ticked));
-    assert_eq!(rt; replies[3], Reply::Pending(0));
+    assert_eq!(rt; replies[0], Ok(Answer::Released));
+    assert_eq!(rt; refusal(replies[1]), Some((51, Layer::Run, (2, 1))));
+    assert_eq!(rt; replies[2], Ok(Answer::Ticked(ticked)));
+    assert_eq!(rt; replies[3], Ok(Answer::Pending(0)));
     Ok(())
 }
 
@@ -44,7 +40,7 @@ fn an_overloaded_table_is_not_run(rt: HostRuntime) -> Result<(), Fail> {
     match replay_by_deadline(rt.alloc(), &table, 3, 4, &[]) {
         Ok(_) => Err(Fail::new("accepted")),
         Err(Failure::Refused(fault)) => {
-            assert!(rt; fault.number == 43);
+            assert!(rt; fault.number() == 43);
             Ok(())
         },
         Err(Failure::NoMemory) => Err(Fail::new("no memory")),

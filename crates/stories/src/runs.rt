@@ -1,6 +1,7 @@
 // What a branch sees of a run, tick by tick, one story a test.
+use crate::refusal::refusal;
 use dispatch::{Job, Progress, Ticked};
-use fault::{Fault, Layer};
+use fault::Layer;
 use order::{EarliestDeadline, FixedPriority};
 use run::Run;
 use std::test::Fail;
@@ -16,15 +17,6 @@ fn in_time(progress: Progress) -> Ticked {
     }
 }
 
-// What a run refuses with.
-fn refused(number: u32, first: u32, second: u32) -> Fault {
-    Fault {
-        number,
-        layer: Layer::Run,
-        place: (first, second),
-    }
-}
-
 // A second job of a row at the same clock is too early by a whole period, and the first one stays.
 #[test]
 fn a_row_released_twice_at_one_clock(rt: HostRuntime) -> Result<(), Fail> {
@@ -32,7 +24,7 @@ fn a_row_released_twice_at_one_clock(rt: HostRuntime) -> Result<(), Fail> {
     table.add(2, 7, 7)?;
     let mut run = Run::new(&table, PeriodicServer::new(1, 1)?, FixedPriority {});
     run.release(1)?;
-    assert_eq!(rt; run.release(1), Err(refused(52, 1, 7)));
+    assert_eq!(rt; refusal(run.release(1)), Some((52, Layer::Run, (1, 7))));
     assert_eq!(rt; run.tick(false)?, in_time(Progress::Ran(1)));
     assert_eq!(rt; run.tick(false)?, in_time(Progress::Ended(1, 2)));
     Ok(())
@@ -54,7 +46,7 @@ fn an_end_on_the_deadline_is_no_miss(rt: HostRuntime) -> Result<(), Fail> {
         lowest: 2,
     };
     assert_eq!(rt; run.tick(false)?, last);
-    assert_eq!(rt; run.end(2), Err(refused(53, 2, 0)));
+    assert_eq!(rt; refusal(run.end(2)), Some((53, Layer::Run, (2, 0))));
     Ok(())
 }
 
@@ -66,7 +58,7 @@ fn releases_exactly_a_period_apart(rt: HostRuntime) -> Result<(), Fail> {
     let mut run = Run::new(&table, PeriodicServer::new(1, 2)?, EarliestDeadline {});
     run.release(1)?;
     assert_eq!(rt; run.tick(true)?, in_time(Progress::Ended(1, 1)));
-    assert_eq!(rt; run.release(1), Err(refused(52, 1, 1)));
+    assert_eq!(rt; refusal(run.release(1)), Some((52, Layer::Run, (1, 1))));
     assert_eq!(rt; run.tick(true)?, in_time(Progress::Withheld));
     run.release(1)?;
     assert_eq!(rt; run.tick(true)?, in_time(Progress::Ended(1, 1)));
@@ -84,9 +76,9 @@ fn an_end_before_the_first_tick(rt: HostRuntime) -> Result<(), Fail> {
     let mut run = Run::new(&table, PeriodicServer::new(1, 1)?, EarliestDeadline {});
     run.release(1)?;
     assert_eq!(rt; run.end(1), Ok(0));
-    assert_eq!(rt; run.end(1), Err(refused(53, 1, 0)));
+    assert_eq!(rt; refusal(run.end(1)), Some((53, Layer::Run, (1, 0))));
     assert_eq!(rt; run.tick(true)?, in_time(Progress::Idle));
-    assert_eq!(rt; run.release(1), Err(refused(52, 1, 2)));
+    assert_eq!(rt; refusal(run.release(1)), Some((52, Layer::Run, (1, 2))));
     Ok(())
 }
 
@@ -105,7 +97,10 @@ fn pending_jobs_are_listed(rt: HostRuntime) -> Result<(), Fail> {
         deadline: 7,
     };
     let mut list = [unused; 2];
-    assert_eq!(rt; run.pending(&mut list[0..1]), Err(refused(55, 2, 1)));
+    assert_eq!(rt;
+        refusal(run.pending(&mut list[0..1])),
+        Some((55, Layer::Run, (2, 1)))
+    );
     assert_eq!(rt; run.tick(false)?, in_time(Progress::Ended(2, 1)));
     assert_eq!(rt; run.pending(&mut list), Ok(1));
     assert_eq!(rt; (list[0].row, list[0].deadline), (1, 9));

@@ -1,8 +1,9 @@
 // What a branch does with the library, one story a test.
 ghost use Rattle.std.specs.Prelude.{◌≡◌};
 
+use crate::refusal::refusal;
 use decision::{busy_window, earliest_deadline, fixed_priority};
-use fault::{Fault, Layer};
+use fault::Layer;
 use report::report;
 use std::test::Fail;
 use supply::{Grant, PeriodicServer, Supply};
@@ -59,15 +60,8 @@ fn a_written_text_is_read_back(rt: HostRuntime) -> Result<(), Fail> {
 #[test]
 fn a_short_list_is_left_alone(rt: HostRuntime) -> Result<(), Fail> {
     let mut out = [7u8; 424];
-    let refused = Fault {
-        number: 15,
-        layer: Layer::Text,
-        place: (0, 424),
-    };
-    match report(b"anything", &mut out) {
-        Ok(_) => return Err(Fail::new("the list was too short")),
-        Err(fault) => assert_eq!(rt; fault, refused),
-    }
+    let told = refusal(report(b"anything", &mut out));
+    assert_eq!(rt; told, Some((15, Layer::Text, (0, 424))));
     for byte in out {
         assert!(rt; byte == 7);
     }
@@ -79,10 +73,10 @@ fn a_short_list_is_left_alone(rt: HostRuntime) -> Result<(), Fail> {
 fn a_refused_row_leaves_the_table(rt: HostRuntime) -> Result<(), Fail> {
     let mut table = Table::new();
     table.add(2, 7, 7)?;
-    match table.add(8, 7, 7) {
-        Ok(()) => return Err(Fail::new("the cost was above the deadline")),
-        Err(fault) => assert_eq!(rt; fault.place, (2, 0)),
-    }
+    assert_eq!(rt;
+        refusal(table.add(8, 7, 7)),
+        Some((32, Layer::Table, (2, 0)))
+    );
     assert!(rt; table.rows().len() == 1);
     table.add(2, 15, 15)?;
     assert!(rt; table.rows().len() == 2);
@@ -95,14 +89,11 @@ fn a_late_grant_still_comes(rt: HostRuntime) -> Result<(), Fail> {
     let mut server = PeriodicServer::new(2, 4)?;
     assert_eq!(rt; server.tick(true), Grant::Granted);
     assert_eq!(rt; server.tick(true), Grant::Granted);
-    let mut grants: u32 = 0;
-    for _ in 0..14 {
-        if server.tick(false) == Grant::Granted {
-            grants = grants.wrapping_add(1);
-        }
-    }
-    assert_eq!(rt; Some(grants), server.bound(14));
+    let grants = (0..14)
+        .filter(|_| server.tick(false) == Grant::Granted)
+        .count();
     assert_eq!(rt; grants, 6);
+    assert_eq!(rt; server.bound(14), Some(6));
     assert_eq!(rt; server.bound(1_000_001), None);
     Ok(())
 }
@@ -121,11 +112,7 @@ fn a_smaller_budget_breaks_a_row(rt: HostRuntime) -> Result<(), Fail> {
     assert!(rt; times.len() == 2);
     assert_eq!(rt; times[0], 6);
     assert_eq!(rt; times[1], 14);
-    match fixed_priority(&table, &PeriodicServer::new(1, 4)?) {
-        Ok(_) => Err(Fail::new("the budget was too small")),
-        Err(fault) => {
-            assert_eq!(rt; (fault.number, fault.place), (41, (1, 7)));
-            Ok(())
-        },
-    }
+    let too_small = fixed_priority(&table, &PeriodicServer::new(1, 4)?);
+    assert_eq!(rt; refusal(too_small), Some((41, Layer::Decision, (1, 7))));
+    Ok(())
 }

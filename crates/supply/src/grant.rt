@@ -8,10 +8,10 @@ pub enum Grant {
     Granted,
 }
 
-impl Grant {
-    pub fn of(granted: bool) -> Grant
-        ensures { result ≡ grant granted }
-    {
+impl From<bool> for Grant {
+    ghost from_gives = { λ granted g. g ≡ grant granted };
+
+    fn from(granted: bool) -> Grant {
         if granted {
             Grant::Granted
         } else {

@@ -1,17 +1,12 @@
 -- What the rows of a table can ask of a supply in t ticks. Assumes nothing.
-use Rattle.std.specs.Prelude.{ℕ, ◌+◌, ◌*◌, List, [], ◌∷◌, take, slice_index_or}
+use Rattle.std.specs.Prelude.{ℕ, ◌+◌, ◌*◌, List, take, slice_index_or, sum_by}
 use Rattle.std.proofs.Common.{arith}
 use Rattle.table.specs.declared.row.Row.{Row}
 use Rattle.table.specs.Rows.{releases_in, deadlines_by}
 
--- the sum over the rows of a number of each
-unfoldable pub total : (Row → ℕ) → List Row → ℕ
-total f [] = 0
-total f (r ∷ rs) = f r + total f rs
-
 -- S(t): the work that can be released in t ticks, over all rows the sum of ⌈t / T⌉ · C
 unfoldable pub requested : List Row → ℕ → ℕ
-requested rs t = total (λ r. releases_in t r * r.cost) rs
+requested rs t = sum_by (λ r. releases_in t r * r.cost) rs
 
 -- stands where a table has no row
 abbrev pub no_row : Row
@@ -27,4 +22,4 @@ workload rs i t = (row_at rs i).cost + requested (take i rs) t
 
 -- H(t): the work that can be released and due within t ticks, over all rows the sum of ⌊(t + T − D) / T⌋ · C
 unfoldable pub demand : List Row → ℕ → ℕ
-demand rs t = total (λ r. deadlines_by t r * r.cost) rs
+demand rs t = sum_by (λ r. deadlines_by t r * r.cost) rs

@@ -1,23 +1,24 @@
 -- The rows of a table, and what adding one does. Assumes nothing.
-use Rattle.std.specs.Prelude.{◌≡◌, ℕ, ◌+◌, ◌<◌, ◌⊎◌, List, [], ◌∷◌, ◌++◌, length, take, Ok, Err, Result}
-use Rattle.fault.specs.declared.Fault.{Fault}
-use Rattle.fault.specs.declared.Layer.TheVariants as layer
-use Rattle.fault.specs.Layers.{fault_of}
+use Rattle.std.specs.Prelude.{◌≡◌, ℕ, ◌+◌, ◌<◌, ◌⊎◌, List, [], ◌∷◌, ◌++◌, length, Ok, Err, Result}
+use Rattle.fault.specs.declared.fault.Fault.{Fault}
+use Rattle.fault.specs.declared.rule.Rule.TheVariants as rule
+use Rattle.fault.specs.Rules.{fault_of}
+use Rattle.bounded.specs.Items.{items_of}
 use Rattle.table.specs.declared.row.Row.{Row}
 use Rattle.table.specs.declared.table.Table.{Table}
 use Rattle.table.specs.Rows.{InBounds, RowIs}
 
 abbrev pub rows_of : Table → List Row
-rows_of t = take t.count t.rows
+rows_of t = items_of t.rows
 
 -- sixteen rows are there already
 abbrev pub Full : Table → Fault → Type 0
-Full t f = (length (rows_of t) ≡ 16) × (f ≡ fault_of layer.Table 31 16 0)
+Full t f = (length (rows_of t) ≡ 16) × (f ≡ fault_of rule.RoomForRow 16 0)
 
 -- there is room, but the row, counted from 1, breaks its bounds
 abbrev pub Broken : ℕ → ℕ → ℕ → Table → Fault → Type 0
 Broken cost period deadline t f =
-    (length (rows_of t) < 16) × (InBounds cost period deadline → ⊥) × (f ≡ fault_of layer.Table 32 (length (rows_of t) + 1) 0)
+    (length (rows_of t) < 16) × (InBounds cost period deadline → ⊥) × (f ≡ fault_of rule.RowBounds (length (rows_of t) + 1) 0)
 
 -- the row goes last; a refused one leaves the table as it was
 abbrev pub Added : ℕ → ℕ → ℕ → Table → Table → Result Unit Fault → Type 0

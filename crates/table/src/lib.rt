@@ -7,4 +7,4 @@ pub mod row;
 pub mod table;
 
 pub use row::Row;
-pub use table::Table;
+pub use table::{MOST_ROWS, Table};

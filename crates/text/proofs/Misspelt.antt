@@ -3,19 +3,20 @@ use Rattle.std.proofs.Common.{◌≡◌, ℕ, zero, suc, ◌+◌, ◌*◌, ◌/�
 use Rattle.std.specs.List.{AllByRecursion}
 use Rattle.std.proofs.lemmas.List.{drop-drop, drop-take, length-drop, length-take-le, take-append-drop, take-take}
 use Rattle.std.proofs.lemmas.Bool.{cases_Bool, cases_eq, cond-false, cond-true, eqb-false, eqb-true}
-use Rattle.fault.specs.declared.Fault.{Fault}
-use Rattle.fault.specs.declared.Layer.TheVariants.{Text}
-use Rattle.fault.specs.Layers.{fault_of}
+use Rattle.std.proofs.lemmas.Bool.Decides.{nat_tests}
+use Rattle.fault.specs.declared.fault.Fault.{Fault}
+use Rattle.fault.specs.declared.rule.Rule.TheVariants.{LineFeed, WellFormed, WholeLines}
+use Rattle.fault.specs.Rules.{fault_number, fault_of}
 use Rattle.fault.specs.Steps.{map_ok}
 use Rattle.text.specs.declared.triple.Triple.{Triple}
 use Rattle.text.specs.Fields.{Reads, field_read}
 use Rattle.text.specs.Texts.{Fitting, line_of, text_of}
-use Rattle.text.specs.Reading.{field_at, field_bytes, line_read, lines_read, order_checked, table_read, text_read, whole_lines}
+use Rattle.text.specs.Reading.{field_at, field_bytes, line_read, lines_read, text_read, whole_lines}
 use Rattle.text.specs.Places.{FirstMisspelt, MisspeltLine, MisspeltRefusal}
 use Rattle.text.proofs.Fields.{reads_field}
 use Rattle.text.proofs.Parts.{line_spells, spelt}
 use Rattle.text.proofs.Spellings.{whole_parts}
-use Rattle.text.proofs.Steps.{failed, no_answer, stopped, was_none, was_some}
+use Rattle.text.proofs.Steps.{no_answer, stopped, was_none, was_some}
 
 -- the field j of a line is a number's text
 abbrev Number : List ℕ → ℕ → Type 0
@@ -27,7 +28,7 @@ is_number bs i j n h = (n, spelt (field_bytes bs j) n (was_some _ _ n h))
 -- the line i is misspelt in its field j
 in_field : (bs : List ℕ) (i j : ℕ) (f : Fault) → get_or bs 24 0 ≡ 10 → ((k : ℕ) → 1 ≤ k → k < j → Number bs k) → field_at bs i j ≡ Err f → (f.place.0 ≡ i) × MisspeltLine bs f
 in_field bs i j f fed before h =
-    let p = was_none (field_read (field_bytes bs j)) (fault_of Text 13 i j) f h in
+    let p = was_none (field_read (field_bytes bs j)) (fault_of WellFormed i j) f h in
     let none : Reads (field_bytes bs j) None = rw p.0 at (reads_field (field_bytes bs j)) in
     subst (λ (d : Fault). (d.place.0 ≡ i) × MisspeltLine bs d) p.1 (refl, inr (refl, fed, none, before))
 
@@ -50,8 +51,8 @@ line_misspelt bs i f h =
     (stopped (field_at bs i 2) _ f past.2))
     (stopped (field_at bs i 1) _ f (sym (cond-true _ _ _ test) ∙ h)))
     (λ (test : eqb (get_or bs 24 0) 10 ≡ false).
-    let e : ◌≡◌ {A = Result Triple Fault} (Err (fault_of Text 12 i 0)) (Err f) = sym (cond-false _ _ _ test) ∙ h in
-    let same : fault_of Text 12 i 0 ≡ f = cc in
+    let e : ◌≡◌ {A = Result Triple Fault} (Err (fault_of LineFeed i 0)) (Err f) = sym (cond-false _ _ _ test) ∙ h in
+    let same : fault_of LineFeed i 0 ≡ f = cc in
     subst (λ (d : Fault). (d.place.0 ≡ i) × MisspeltLine bs d) same (refl, inl (refl, eqb-false (get_or bs 24 0) 10 test)))
     (cases_Bool (eqb (get_or bs 24 0) 10))
 
@@ -93,10 +94,10 @@ found (suc k) bs i f all h =
 
 -- the refusal is for a line, and not for the text's length or its order
 abbrev ForLine : Fault → Type 0
-ForLine f = (f.number ≡ 12) ⊎ (f.number ≡ 13)
+ForLine f = (fault_number f ≡ 12) ⊎ (fault_number f ≡ 13)
 
-other : (d f : Fault) → d ≡ f → (d.number ≡ 12 → ⊥) → (d.number ≡ 13 → ⊥) → ForLine f → ⊥
-other d f same no_feed no_field = let number = ap (λ (e : Fault). e.number) same in ⊎_elim (λ e. no_feed (number ∙ e)) (λ e. no_field (number ∙ e))
+other : (d f : Fault) → d ≡ f → (fault_number d ≡ 12 → ⊥) → (fault_number d ≡ 13 → ⊥) → ForLine f → ⊥
+other d f same no_feed no_field = grind (arith, nat_tests)
 
 text_first : (bs : List ℕ) (f : Fault) → text_read bs ≡ Err f → ForLine f → FirstMisspelt bs f
 unfolding text_read
@@ -107,25 +108,12 @@ text_first bs f h for_line =
     let it = found (length bs / 25) bs 1 f (omega arith) (sym (cond-true _ _ _ test) ∙ h) in
     record { before = it.before; fits = it.fits; text = it.text; line = it.line; wrong = it.wrong })
     (λ (test : whole_lines (length bs) ≡ false).
-    let e : ◌≡◌ {A = Result (List Triple) Fault} (Err (fault_of Text 11 0 0)) (Err f) = sym (cond-false _ _ _ test) ∙ h in
-    let same : fault_of Text 11 0 0 ≡ f = cc in
-    absurd (other (fault_of Text 11 0 0) f same (λ e. omega arith) (λ e. omega arith) for_line))
+    let e : ◌≡◌ {A = Result (List Triple) Fault} (Err (fault_of WholeLines 0 0)) (Err f) = sym (cond-false _ _ _ test) ∙ h in
+    let same : fault_of WholeLines 0 0 ≡ f = cc in
+    absurd (other (fault_of WholeLines 0 0) f same (λ e. omega arith) (λ e. omega arith) for_line))
     (cases_Bool (whole_lines (length bs)))
-
-table_first : (bs : List ℕ) (f : Fault) → table_read bs ≡ Err f → ForLine f → FirstMisspelt bs f
-table_first bs f h for_line =
-    ⊎_elim (λ text. text_first bs f text for_line)
-    (λ past. ⊎_elim
-    (λ order. absurd (other (fault_of Text 14 1 1) f (failed _ tt (fault_of Text 14 1 1) f order).1 (λ e. omega arith) (λ e. omega arith) for_line))
-    (λ all. absurd (no_answer _ f (sym all.2)))
-    (stopped (order_checked past.0) _ f past.2))
-    (stopped (text_read bs) _ f h)
 
 -- however the triples are held
 pub text_misspelt : {X : Type 0} (held : X → List Triple) (bs : List ℕ) (r : Result X Fault) → map_ok held r ≡ text_read bs → MisspeltRefusal bs r
 text_misspelt held bs (Ok x) value = tt
 text_misspelt held bs (Err f) value = text_first bs f (sym value)
-
-pub table_misspelt : {X : Type 0} (held : X → List Triple) (bs : List ℕ) (r : Result X Fault) → map_ok held r ≡ table_read bs → MisspeltRefusal bs r
-table_misspelt held bs (Ok x) value = tt
-table_misspelt held bs (Err f) value = table_first bs f (sym value)

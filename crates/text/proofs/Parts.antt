@@ -2,12 +2,13 @@
 use Rattle.std.proofs.Common.{◌≡◌, ℕ, eqb, List, [], ◌∷◌, ◌++◌, length, get_or, take, drop, Some, Ok, sym, ap, ◌∙◌, arith}
 use Rattle.std.proofs.lemmas.List.{drop_all, drop_at, drop-drop, drop_more, get_or-drop, length-append, take-append-drop, take_at}
 use Rattle.std.proofs.lemmas.Bool.{cond-true, eq-eqb, eqb-true}
+use Rattle.std.proofs.lemmas.Bool.Decides.{nat_tests}
 use Rattle.text.specs.declared.triple.Triple.{Triple}
 use Rattle.text.specs.Fields.{Reads, field_of, field_read}
 use Rattle.text.specs.Texts.{Fitting, line_of}
 use Rattle.text.specs.Reading.{fields_read, line_read}
 use Rattle.text.proofs.Fields.{field_read_of, length_field, reads_field}
-use Rattle.text.proofs.Steps.{passed, was_some, went_on}
+use Rattle.text.proofs.Steps.{passed}
 
 -- where each part of a line stands
 record Parts (a b c bs : List ℕ) : Type 0 where
@@ -60,18 +61,10 @@ line_read_of t i fits =
 
 -- where three fields gave a triple, each gave its number
 fields_split : (bs : List ℕ) (i : ℕ) (t : Triple) → fields_read bs i ≡ Ok t → (field_read (take 8 bs) ≡ Some t.first) × (field_read (take 8 (drop 8 bs)) ≡ Some t.second) × (field_read (take 8 (drop 16 bs)) ≡ Some t.third)
-fields_split bs i t read =
-    let one = went_on _ _ t read in
-    let two = went_on _ _ t one.2 in
-    let three = went_on _ _ t two.2 in
-    let same : record { first = one.0; second = two.0; third = three.0 } ≡ t = cc three.2 in (
-      was_some _ _ t.first (one.1 ∙ ap (λ (u : Triple). Ok u.first) same),
-      was_some _ _ t.second (two.1 ∙ ap (λ (u : Triple). Ok u.second) same),
-      was_some _ _ t.third (three.1 ∙ ap (λ (u : Triple). Ok u.third) same),
-    )
+fields_split bs i t read = grind (arith, nat_tests)
 
 pub spelt : (bs : List ℕ) (n : ℕ) → field_read bs ≡ Some n → Reads bs (Some n)
-spelt bs n e = rw e at (reads_field bs)
+spelt bs n e = grind (arith, reads_field)
 
 -- a line that is read as a triple is the triple's
 pub line_spells : (bs : List ℕ) (i : ℕ) (t : Triple) → length bs ≡ 25 → line_read bs i ≡ Ok t → (line_of t ≡ bs) × Fitting t

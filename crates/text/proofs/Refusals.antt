@@ -1,16 +1,12 @@
 -- Every refusal has numbers that fit into fields. Assumes nothing.
-use Rattle.std.proofs.Common.{◌≡◌, ℕ, zero, suc, ◌+◌, ◌/◌, ◌^◌, ◌≤◌, ◌&&◌, eqb, ltb, leb, List, [], ◌∷◌, length, get_or, take, drop, Some, None, Ok, Err, Option, Result, sym, subst, arith}
-use Rattle.std.specs.Option.{ok_or}
-use Rattle.std.proofs.lemmas.Bool.{and_parts, cond_both, leb-true, ltb-true}
-use Rattle.fault.specs.declared.Fault.{Fault}
-use Rattle.fault.specs.declared.Layer.TheVariants.{Text}
-use Rattle.fault.specs.Layers.{fault_of}
+use Rattle.std.proofs.Common.{◌≡◌, ℕ, zero, suc, ◌+◌, ◌≤◌, List, [], ◌∷◌, length, take, drop, Ok, Err, Result, sym, subst, arith}
+use Rattle.std.proofs.lemmas.Bool.Decides.{nat_tests}
+use Rattle.fault.specs.declared.fault.Fault.{Fault}
 use Rattle.fault.specs.Steps.{and_then, map_ok}
 use Rattle.text.specs.declared.triple.Triple.{Triple}
 use Rattle.text.specs.Fields.{Fits}
-use Rattle.text.specs.Texts.{order_of}
-use Rattle.text.specs.Reading.{PrintableRefusal, field_at, fields_read, line_read, lines_read, order_checked, table_read, text_read, whole_lines}
-use Rattle.text.specs.Writing.{few_lines, lines_checked, lines_written, number_checked, table_checked, table_written, triple_checked, triples_checked}
+use Rattle.text.specs.Reading.{PrintableRefusal, line_read, lines_read, order_checked, table_read, text_read}
+use Rattle.text.specs.Writing.{lines_checked, lines_written, number_checked, table_written, triple_checked, triples_checked}
 use Rattle.text.proofs.Spellings.{whole_parts}
 
 -- two steps
@@ -24,16 +20,8 @@ view_printable g (Ok x) s e p = tt
 view_printable g (Err f) s e p = subst PrintableRefusal (sym e) p
 
 -- reading
-field_printable : (o : Option ℕ) (i j : ℕ) → Fits i → Fits j → PrintableRefusal (ok_or o (fault_of Text 13 i j))
-field_printable (Some n) i j fi fj = tt
-field_printable None i j fi fj = (omega arith, fi, fj)
-
 line_printable : (bs : List ℕ) (i : ℕ) → Fits i → PrintableRefusal (line_read bs i)
-line_printable bs i fi =
-    cond_both (eqb (get_or bs 24 0) 10) (fields_read bs i) (Err (fault_of Text 12 i 0)) PrintableRefusal
-    (λ _. then_printable (field_at bs i 1) _ (field_printable _ i 1 fi (omega arith))
-    (λ x. then_printable (field_at bs i 2) _ (field_printable _ i 2 fi (omega arith)) (λ y. then_printable (field_at bs i 3) _ (field_printable _ i 3 fi (omega arith)) (λ z. tt))))
-    (λ _. (omega arith, fi, omega arith))
+line_printable bs i fi = grind (arith, nat_tests)
 
 lines_printable : (k : ℕ) (bs : List ℕ) (i : ℕ) → i + k ≤ 18 → PrintableRefusal (lines_read k bs i)
 lines_printable zero bs i few = tt
@@ -43,21 +31,17 @@ lines_printable (suc k) bs i few =
 
 pub text_printable : (bs : List ℕ) → PrintableRefusal (text_read bs)
 unfolding text_read
-text_printable bs =
-    cond_both (whole_lines (length bs)) (lines_read (length bs / 25) bs 1) _ PrintableRefusal
-    (λ whole. let p = whole_parts (length bs) whole in lines_printable (length bs / 25) bs 1 (omega arith))
-    (λ _. (omega arith, omega arith, omega arith))
+text_printable bs = grind (arith, nat_tests, lines_printable, whole_parts)
 
 order_printable : (ts : List Triple) → PrintableRefusal (order_checked ts)
-order_printable ts =
-    cond_both (leb 1 (order_of ts) && leb (order_of ts) 2) (Ok tt) _ PrintableRefusal (λ _. tt) (λ _. (omega arith, omega arith, omega arith))
+order_printable ts = grind (arith, nat_tests)
 
 pub table_printable : (bs : List ℕ) → PrintableRefusal (table_read bs)
-table_printable bs = then_printable (text_read bs) _ (text_printable bs) (λ ts. then_printable (order_checked ts) _ (order_printable ts) (λ _. tt))
+table_printable bs = grind (arith, text_printable, order_printable)
 
 -- writing
 number_printable : (n i j : ℕ) → Fits i → Fits j → PrintableRefusal (number_checked n i j)
-number_printable n i j fi fj = cond_both (ltb n (10 ^ 8)) (Ok tt) _ PrintableRefusal (λ _. tt) (λ _. (omega arith, fi, fj))
+number_printable n i j fi fj = grind (arith, nat_tests)
 
 triples_printable : (ts : List Triple) (i : ℕ) → i + length ts ≤ 18 → PrintableRefusal (triples_checked ts i)
 triples_printable [] i few = tt
@@ -70,16 +54,10 @@ triples_printable (t ∷ ts) i few =
 
 lines_checked_printable : (ts : List Triple) (room : ℕ) → PrintableRefusal (lines_checked ts room)
 unfolding lines_checked
-lines_checked_printable ts room =
-    cond_both (ltb room 425) (Err (fault_of Text 15 0 room)) _ PrintableRefusal
-    (λ short. (omega arith, omega arith, omega (arith, ltb-true room 425 short)))
-    (λ _. cond_both (few_lines (length ts)) (triples_checked ts 1) _ PrintableRefusal
-    (λ few. triples_printable ts 1 (omega (arith, leb-true (length ts) 17 (and_parts _ _ few).1)))
-    (λ _. (omega arith, omega arith, omega arith)))
+lines_checked_printable ts room = grind (arith, nat_tests, triples_printable)
 
 pub lines_written_printable : (ts : List Triple) (room : ℕ) → PrintableRefusal (lines_written ts room)
-lines_written_printable ts room = then_printable (lines_checked ts room) _ (lines_checked_printable ts room) (λ _. tt)
+lines_written_printable ts room = grind (arith, lines_checked_printable)
 
 pub table_written_printable : (ts : List Triple) (room : ℕ) → PrintableRefusal (table_written ts room)
-table_written_printable ts room =
-    then_printable (table_checked ts room) _ (then_printable (lines_checked ts room) _ (lines_checked_printable ts room) (λ _. order_printable ts)) (λ _. tt)
+table_written_printable ts room = grind (arith, lines_checked_printable, order_printable)

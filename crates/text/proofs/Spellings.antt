@@ -1,9 +1,9 @@
 -- A text is read as just the triples that it spells. Assumes nothing.
-use Rattle.std.proofs.Common.{◌≡◌, ℕ, zero, suc, ◌*◌, ◌/◌, ◌%◌, ◌<◌, ◌≤◌, true, ◌&&◌, eqb, ltb, leb, List, [], ◌∷◌, ◌++◌, length, take, drop, Ok, Err, Result, sym, refl, ap, ◌∙◌, subst, arith}
+use Rattle.std.proofs.Common.{◌≡◌, ℕ, zero, suc, ◌*◌, ◌/◌, ◌%◌, ◌<◌, ◌≤◌, true, List, [], ◌∷◌, ◌++◌, length, take, drop, Ok, Err, Result, sym, refl, ap, ◌∙◌, subst, arith}
 use Rattle.std.specs.List.{AllByRecursion}
 use Rattle.std.proofs.lemmas.List.{drop_at, length-append, length-drop, length-take-le, nil_from_length, take-append-drop, take_at}
-use Rattle.std.proofs.lemmas.Bool.{and_from, and_parts, cond-true, eq-eqb, eqb-true, le-leb, leb-true, lt-ltb, ltb-true}
-use Rattle.fault.specs.declared.Fault.{Fault}
+use Rattle.std.proofs.lemmas.Bool.Decides.{nat_tests}
+use Rattle.fault.specs.declared.fault.Fault.{Fault}
 use Rattle.fault.specs.Steps.{and_then}
 use Rattle.text.specs.declared.triple.Triple.{Triple}
 use Rattle.text.specs.Texts.{Fitting, Spells, SpellsTable, TableOrder, line_of, order_of, text_of}
@@ -50,16 +50,12 @@ lines_spell (suc k) bs i ts all read =
     })
 
 pub whole_parts : (n : ℕ) → whole_lines n ≡ true → (0 < n) × (n % 25 ≡ 0) × (n ≤ 425)
-whole_parts n whole =
-    let p = and_parts (ltb 0 n) (eqb (n % 25) 0 && leb n 425) whole in
-    let q = and_parts (eqb (n % 25) 0) (leb n 425) p.1 in
-    (ltb-true 0 n p.0, eqb-true (n % 25) 0 q.0, leb-true n 425 q.1)
+whole_parts n whole = grind (arith, nat_tests)
 
 -- a text of 1 to 17 whole lines is read line by line
 pub text_read_whole : (bs : List ℕ) → 0 < length bs → length bs % 25 ≡ 0 → length bs ≤ 425 → text_read bs ≡ lines_read (length bs / 25) bs 1
 unfolding text_read
-text_read_whole bs some even short =
-    cond-true _ _ _ (and_from _ _ (lt-ltb 0 (length bs) some) (and_from _ _ (eq-eqb _ 0 even) (le-leb (length bs) 425 short)))
+text_read_whole bs some even short = grind (arith, nat_tests)
 
 -- the text of triples is read as the triples
 pub text_read_of : (ts : List Triple) → 1 ≤ length ts → length ts ≤ 17 → AllByRecursion Fitting ts → text_read (text_of ts) ≡ Ok ts
@@ -85,7 +81,7 @@ told_text bs (Err f) read =
 
 -- the text of triples that begin with an order is read as a table
 pub table_read_of : (ts : List Triple) → 1 ≤ length ts → length ts ≤ 17 → AllByRecursion Fitting ts → TableOrder (order_of ts) → table_read (text_of ts) ≡ Ok ts
-table_read_of ts some few fits order = rw (text_read_of ts some few fits, order_passes ts order)
+table_read_of ts some few fits order = grind (arith, text_read_of, order_passes)
 
 -- so is no other text
 pub told_table : (bs : List ℕ) (r : Result (List Triple) Fault) → table_read bs ≡ r → Tells SpellsTable bs r

@@ -1,71 +1,50 @@
--- One turn more over the lines of a text, and over triples that are checked. Assumes nothing.
-use Rattle.std.proofs.Common.{◌≡◌, ℕ, suc, ◌+◌, ◌-◌, ◌*◌, ◌<◌, ◌≤◌, List, [], ◌∷◌, ◌++◌, length, get_or, take, drop, Ok, Err, Result, sym, refl, ap, ◌∙◌, append_assoc, add-one, arith}
-use Rattle.std.proofs.lemmas.List.{append-nil, drop-drop, drop_more}
-use Rattle.fault.specs.declared.Fault.{Fault}
+-- One turn more over the lines of a text. Assumes nothing.
+use Rattle.std.proofs.Common.{◌≡◌, ℕ, suc, ◌+◌, ◌*◌, ◌/◌, ◌<◌, List, [], ◌∷◌, ◌++◌, length, take, drop, Ok, Err, Result, sym, refl, ap, ◌∙◌, append_assoc, add-one, arith}
+use Rattle.std.proofs.lemmas.List.{drop_at, length-append, take_at}
+use Rattle.std.proofs.lemmas.Grind.{common_steps}
+use Rattle.fault.specs.declared.fault.Fault.{Fault}
 use Rattle.fault.specs.Steps.{and_then}
 use Rattle.text.specs.declared.triple.Triple.{Triple}
 use Rattle.text.specs.Reading.{line_read, lines_read}
-use Rattle.text.specs.Writing.{triple_checked, triples_checked}
 
 -- the triples that are done, and then those of the rest
 abbrev pub behind : List Triple → Result (List Triple) Fault → Result (List Triple) Fault
 behind done rest = and_then rest (λ ts. Ok (done ++ ts))
 
--- the lines from i on, of n lines
-abbrev pub lines_from : ℕ → List ℕ → ℕ → Result (List Triple) Fault
-lines_from n bs i = lines_read (n - i) (drop (25 * i) bs) (i + 1)
+-- the triples of the lines so far, and what the rest gives behind them is what the whole gives
+pub record Turn (bs : List ℕ) (done : List Triple) (count : ℕ) (rest : List ℕ) : Type 0 where
+  pub counted : length done ≡ count
+  pub whole : 25 * count + length rest ≡ length bs
+  pub so : behind done (lines_read (length rest / 25) rest (count + 1)) ≡ lines_read (length bs / 25) bs 1
 
 behind_none : (rest : Result (List Triple) Fault) → behind [] rest ≡ rest
 behind_none (Ok ts) = refl
 behind_none (Err f) = refl
 
 -- no line is done
-pub lines_none : (n : ℕ) (bs : List ℕ) → behind [] (lines_from n bs 0) ≡ lines_read n bs 1
-lines_none n bs = behind_none (lines_from n bs 0) ∙ ap (λ k. lines_read k bs 1) (omega arith)
-
-lines_from_more : (n i : ℕ) (bs : List ℕ) → i < n → lines_from n bs i ≡ and_then (line_read (take 25 (drop (25 * i) bs)) (i + 1)) (λ t. and_then (lines_from n bs (i + 1)) (λ ts. Ok (t ∷ ts)))
-lines_from_more n i bs low =
-    let left : n - i ≡ suc (n - (i + 1)) = omega arith in
-    let next : drop 25 (drop (25 * i) bs) ≡ drop (25 * (i + 1)) bs = drop-drop 25 (25 * i) bs ∙ ap (λ k. drop k bs) (omega arith) in
-    let line : Result Triple Fault = line_read (take 25 (drop (25 * i) bs)) (i + 1) in
-    ap (λ k. lines_read k (drop (25 * i) bs) (i + 1)) left ∙
-    ap (λ xs. and_then line (λ t. and_then (lines_read (n - (i + 1)) xs (suc (i + 1))) (λ ts. Ok (t ∷ ts)))) next ∙
-    ap (λ k. and_then line (λ t. and_then (lines_read (n - (i + 1)) (drop (25 * (i + 1)) bs) k) (λ ts. Ok (t ∷ ts)))) (sym (add-one (i + 1)))
+pub turn_none : (bs : List ℕ) → Turn bs [] 0 bs
+turn_none bs = record { counted = refl; whole = omega arith; so = behind_none (lines_read (length bs / 25) bs 1) }
 
 behind_push : (done : List Triple) (t : Triple) (rest : Result (List Triple) Fault) → behind done (and_then rest (λ ts. Ok (t ∷ ts))) ≡ behind (done ++ t ∷ []) rest
 behind_push done t (Ok ts) = ap (λ xs. Ok xs) (sym (append_assoc done (t ∷ []) ts))
 behind_push done t (Err f) = refl
 
--- the line at i gave a triple
-pub line_more : (n i : ℕ) (bs : List ℕ) (done : List Triple) (t : Triple) → i < n → Ok t ≡ line_read (take 25 (drop (25 * i) bs)) (i + 1) → behind done (lines_from n bs i) ≡ lines_read n bs 1 → behind (done ++ t ∷ []) (lines_from n bs (i + 1)) ≡ lines_read n bs 1
-line_more n i bs done t low read so =
-    sym (behind_push done t (lines_from n bs (i + 1))) ∙
-    ap (λ r. behind done (and_then r (λ u. and_then (lines_from n bs (i + 1)) (λ ts. Ok (u ∷ ts))))) read ∙
-    ap (behind done) (sym (lines_from_more n i bs low)) ∙ so
+-- the rest is the next line and what stands behind it
+lines_read_more : (rest x xs : List ℕ) (i : ℕ) → rest ≡ x ++ xs → length x ≡ 25 → lines_read (length rest / 25) rest i ≡ and_then (line_read x i) (λ t. and_then (lines_read (length xs / 25) xs (i + 1)) (λ ts. Ok (t ∷ ts)))
+lines_read_more rest x xs i split long =
+    let count : length rest / 25 ≡ suc (length xs / 25) = omega (arith, ap length split, length-append x xs) in
+    let first : take 25 rest ≡ x = ap (take 25) split ∙ take_at x xs 25 long in
+    let behind : drop 25 rest ≡ xs = ap (drop 25) split ∙ drop_at x xs 25 long in
+    rw (count, first, behind, add-one) refl
 
--- a fault in the line at i is the fault of all
-pub line_fault : (n i : ℕ) (bs : List ℕ) (done : List Triple) (f : Fault) → i < n → Err f ≡ line_read (take 25 (drop (25 * i) bs)) (i + 1) → behind done (lines_from n bs i) ≡ lines_read n bs 1 → Err f ≡ lines_read n bs 1
-line_fault n i bs done f low read so =
-    ap (λ r. behind done (and_then r (λ u. and_then (lines_from n bs (i + 1)) (λ ts. Ok (u ∷ ts))))) read ∙
-    ap (behind done) (sym (lines_from_more n i bs low)) ∙ so
+-- the next line gave a triple
+pub turn_more : (bs rest x xs : List ℕ) (done : List Triple) (i : ℕ) (t : Triple) → rest ≡ x ++ xs → length x ≡ 25 → Ok t ≡ line_read x (i + 1) → Turn bs done i rest → Turn bs (done ++ t ∷ []) (i + 1) xs
+turn_more bs rest x xs done i t split long read turn = grind (arith, common_steps, lines_read_more, behind_push)
+
+-- a fault in the next line is the fault of all
+pub turn_fault : (bs rest x xs : List ℕ) (done : List Triple) (i : ℕ) (f : Fault) → rest ≡ x ++ xs → length x ≡ 25 → Err f ≡ line_read x (i + 1) → Turn bs done i rest → Err f ≡ lines_read (length bs / 25) bs 1
+turn_fault bs rest x xs done i f split long read turn = grind (arith, common_steps, lines_read_more)
 
 -- no line is left
-pub lines_all : (n i : ℕ) (bs : List ℕ) (done : List Triple) → n ≤ i → behind done (lines_from n bs i) ≡ lines_read n bs 1 → Ok done ≡ lines_read n bs 1
-lines_all n i bs done all so =
-    let left : n - i ≡ 0 = omega arith in
-    ap (λ ts. Ok ts) (sym (append-nil done)) ∙ ap (λ k. behind done (lines_read k (drop (25 * i) bs) (i + 1))) (sym left) ∙ so
-
-checked_more : (ts : List Triple) (i : ℕ) (d : Triple) → i < length ts → triples_checked (drop i ts) (i + 1) ≡ and_then (triple_checked (get_or ts i d) (i + 1)) (λ _. triples_checked (drop (i + 1) ts) (i + 1 + 1))
-checked_more ts i d low =
-    ap (λ us. triples_checked us (i + 1)) (drop_more ts i d low) ∙
-    ap (λ k. and_then (triple_checked (get_or ts i d) (i + 1)) (λ _. triples_checked (drop (i + 1) ts) k)) (sym (add-one (i + 1)))
-
--- the triple at i passes
-pub triple_more : (ts : List Triple) (i : ℕ) (d : Triple) → i < length ts → Ok tt ≡ triple_checked (get_or ts i d) (i + 1) → triples_checked (drop i ts) (i + 1) ≡ triples_checked ts 1 → triples_checked (drop (i + 1) ts) (i + 1 + 1) ≡ triples_checked ts 1
-triple_more ts i d low fits so =
-    ap (λ (r : Result Unit Fault). and_then r (λ _. triples_checked (drop (i + 1) ts) (i + 1 + 1))) fits ∙ sym (checked_more ts i d low) ∙ so
-
--- it is refused
-pub triple_fault : (ts : List Triple) (i : ℕ) (d : Triple) (f : Fault) → i < length ts → Err f ≡ triple_checked (get_or ts i d) (i + 1) → triples_checked (drop i ts) (i + 1) ≡ triples_checked ts 1 → Err f ≡ triples_checked ts 1
-triple_fault ts i d f low refused so =
-    ap (λ (r : Result Unit Fault). and_then r (λ _. triples_checked (drop (i + 1) ts) (i + 1 + 1))) refused ∙ sym (checked_more ts i d low) ∙ so
+pub turn_all : (bs rest : List ℕ) (done : List Triple) (i : ℕ) → length rest < 25 → Turn bs done i rest → Ok done ≡ lines_read (length bs / 25) bs 1
+turn_all bs rest done i few turn = grind (arith, common_steps)

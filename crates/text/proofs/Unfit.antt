@@ -1,13 +1,13 @@
 -- A refused number is the first that does not fit. Assumes nothing.
-use Rattle.std.proofs.Common.{◌≡◌, ℕ, suc, ◌+◌, ◌*◌, ◌/◌, ◌%◌, ◌^◌, ◌≤◌, Bool, true, false, cond, ltb, ◌⊎◌, List, [], ◌∷◌, length, get_or, take, Err, Result, sym, ap, ◌∙◌, inl, inr, ⊎_elim, arith}
+use Rattle.std.proofs.Common.{◌≡◌, ℕ, suc, ◌+◌, ◌*◌, ◌/◌, ◌%◌, ◌^◌, ◌≤◌, Bool, true, false, cond, ltb, ◌⊎◌, List, [], ◌∷◌, length, get_or, take, Ok, Err, Result, sym, ap, ◌∙◌, inl, inr, ⊎_elim, arith}
 use Rattle.std.specs.List.{AllByRecursion}
-use Rattle.std.proofs.lemmas.Bool.{ltb-false}
-use Rattle.fault.specs.declared.Fault.{Fault}
-use Rattle.fault.specs.declared.Layer.TheVariants.{Text}
-use Rattle.fault.specs.Layers.{fault_of}
+use Rattle.std.proofs.lemmas.Bool.Decides.{nat_tests}
+use Rattle.fault.specs.declared.fault.Fault.{Fault}
+use Rattle.fault.specs.declared.rule.Rule.TheVariants.{KnownOrder, RoomToWrite, WholeLines}
+use Rattle.fault.specs.Rules.{fault_number, fault_of}
 use Rattle.text.specs.declared.triple.Triple.{Triple}
 use Rattle.text.specs.Fields.{Fits}
-use Rattle.text.specs.Places.{FirstUnfit, numbers_of}
+use Rattle.text.specs.Places.{FirstUnfit, UnfitRefusal, numbers_of}
 use Rattle.text.specs.Writing.{few_lines, lines_checked, lines_written, number_checked, table_checked, table_written, triple_checked, triples_checked}
 use Rattle.text.proofs.Checks.{number_fits, triple_fits}
 use Rattle.text.proofs.Steps.{failed, no_answer, stopped}
@@ -20,9 +20,7 @@ record Found (ns : List ℕ) (i : ℕ) (f : Fault) : Type 0 where
   before : AllByRecursion Fits (take at ns)
 
 refused : (n i j : ℕ) (f : Fault) → number_checked n i j ≡ Err f → (10 ^ 8 ≤ n) × (f.place ≡ (i, j))
-refused n i j f h =
-    let p = failed (ltb n (10 ^ 8)) tt (fault_of Text 13 i j) f h in
-    (ltb-false n (10 ^ 8) p.0, ap (λ (d : Fault). d.place) (sym p.1))
+refused n i j f h = grind (arith, nat_tests)
 
 found : (ts : List Triple) (i : ℕ) (f : Fault) → triples_checked ts i ≡ Err f → Found (numbers_of ts) i f
 found [] i f h = absurd (no_answer tt f (sym h))
@@ -52,31 +50,34 @@ found (t ∷ ts) i f h =
     (stopped (triple_checked t i) _ f h)
 
 -- a refusal for another reason has another number
-other : (d f : Fault) → ◌≡◌ {A = Result Unit Fault} (Err d) (Err f) → (d.number ≡ 13 → ⊥) → f.number ≡ 13 → ⊥
-other d f h no_unfit unfit = let same : d ≡ f = cc in no_unfit (ap (λ (e : Fault). e.number) same ∙ unfit)
+other : (d f : Fault) → ◌≡◌ {A = Result Unit Fault} (Err d) (Err f) → (fault_number d ≡ 13 → ⊥) → fault_number f ≡ 13 → ⊥
+other d f h no_unfit unfit = grind (arith, nat_tests)
 
 either : (b : Bool) (r s : Result Unit Fault) (f : Fault) → cond b r s ≡ Err f → (r ≡ Err f) ⊎ (s ≡ Err f)
 either true r s f h = inl h
 either false r s f h = inr h
 
-first_unfit : (ts : List Triple) (room : ℕ) (f : Fault) → lines_checked ts room ≡ Err f → f.number ≡ 13 → FirstUnfit ts f
+first_unfit : (ts : List Triple) (room : ℕ) (f : Fault) → lines_checked ts room ≡ Err f → fault_number f ≡ 13 → FirstUnfit ts f
 unfolding lines_checked
 first_unfit ts room f h unfit =
-    ⊎_elim (λ short. absurd (other (fault_of Text 15 0 room) f short (λ e. omega arith) unfit))
+    ⊎_elim (λ short. absurd (other (fault_of RoomToWrite 0 room) f short (λ e. omega arith) unfit))
     (λ roomy. ⊎_elim
     (λ few. let it = found ts 1 f few in record { at = it.at; place = it.place; large = it.large; before = it.before })
-    (λ many. absurd (other (fault_of Text 11 0 0) f many (λ e. omega arith) unfit))
+    (λ many. absurd (other (fault_of WholeLines 0 0) f many (λ e. omega arith) unfit))
     (either (few_lines (length ts)) _ _ f roomy))
     (either (ltb room 425) _ _ f h)
 
-pub unfit_lines : (ts : List Triple) (room : ℕ) (f : Fault) → Err f ≡ lines_written ts room → f.number ≡ 13 → FirstUnfit ts f
-unfit_lines ts room f h unfit =
-    ⊎_elim (λ refused. first_unfit ts room f refused unfit) (λ past. absurd (no_answer (25 * length ts) f (sym past.2)))
-    (stopped (lines_checked ts room) _ f (sym h))
+-- a refusal in place of the count of the bytes
+pub unfit_lines : (ts : List Triple) (room : ℕ) (r : Result ℕ Fault) → r ≡ lines_written ts room → UnfitRefusal ts r
+unfit_lines ts room (Ok n) value = tt
+unfit_lines ts room (Err f) value =
+    ⊎_elim (λ refused. first_unfit ts room f refused) (λ past. absurd (no_answer (25 * length ts) f (sym past.2)))
+    (stopped (lines_checked ts room) _ f (sym value))
 
-pub unfit_table : (ts : List Triple) (room : ℕ) (f : Fault) → Err f ≡ table_written ts room → f.number ≡ 13 → FirstUnfit ts f
-unfit_table ts room f h unfit =
-    ⊎_elim (λ refused. ⊎_elim (λ lines. first_unfit ts room f lines unfit)
-    (λ past. absurd (other (fault_of Text 14 1 1) f (ap (λ d. Err d) (failed _ tt (fault_of Text 14 1 1) f past.2).1) (λ e. omega arith) unfit))
+pub unfit_table : (ts : List Triple) (room : ℕ) (r : Result ℕ Fault) → r ≡ table_written ts room → UnfitRefusal ts r
+unfit_table ts room (Ok n) value = tt
+unfit_table ts room (Err f) value =
+    ⊎_elim (λ refused. ⊎_elim (λ lines. first_unfit ts room f lines)
+    (λ past unfit. absurd (other (fault_of KnownOrder 1 1) f (ap (λ d. Err d) (failed _ tt (fault_of KnownOrder 1 1) f past.2).1) (λ e. omega arith) unfit))
     (stopped (lines_checked ts room) _ f refused)) (λ past. absurd (no_answer (25 * length ts) f (sym past.2)))
-    (stopped (table_checked ts room) _ f (sym h))
+    (stopped (table_checked ts room) _ f (sym value))

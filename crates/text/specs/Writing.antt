@@ -1,9 +1,9 @@
 -- What writing triples answers, and which bytes it leaves. Assumes nothing.
 use Rattle.std.specs.Prelude.{◌≡◌, ℕ, suc, ◌*◌, ◌^◌, ◌≤◌, Bool, cond, ◌&&◌, List, [], ◌∷◌, ◌++◌, length, drop, Ok, Err, Result, nat_le, nat_lt}
 use Rattle.std.specs.List.{AllByRecursion}
-use Rattle.fault.specs.declared.Fault.{Fault}
-use Rattle.fault.specs.declared.Layer.TheVariants.{Text}
-use Rattle.fault.specs.Layers.{fault_of}
+use Rattle.fault.specs.declared.fault.Fault.{Fault}
+use Rattle.fault.specs.declared.rule.Rule.TheVariants.{RoomToWrite, WellFormed, WholeLines}
+use Rattle.fault.specs.Rules.{fault_of}
 use Rattle.fault.specs.Steps.{and_then}
 use Rattle.text.specs.declared.triple.Triple.{Triple}
 use Rattle.text.specs.Texts.{Fitting, TableOrder, order_of, text_of}
@@ -11,7 +11,7 @@ use Rattle.text.specs.Reading.{order_checked}
 
 -- the number n fits, which is to be the field j of the line i
 abbrev pub number_checked : ℕ → ℕ → ℕ → Result Unit Fault
-number_checked n i j = cond (nat_lt n (10 ^ 8)) (Ok tt) (Err (fault_of Text 13 i j))
+number_checked n i j = cond (nat_lt n (10 ^ 8)) (Ok tt) (Err (fault_of WellFormed i j))
 
 -- the numbers of a triple, from the left
 abbrev pub triple_checked : Triple → ℕ → Result Unit Fault
@@ -30,7 +30,7 @@ few_lines n = nat_le 1 n && nat_le n 17
 -- room for the longest text, then 1 to 17 triples, then numbers that fit
 unfoldable pub lines_checked : List Triple → ℕ → Result Unit Fault
 lines_checked ts room =
-    cond (nat_lt room 425) (Err (fault_of Text 15 0 room)) (cond (few_lines (length ts)) (triples_checked ts 1) (Err (fault_of Text 11 0 0)))
+    cond (nat_lt room 425) (Err (fault_of RoomToWrite 0 room)) (cond (few_lines (length ts)) (triples_checked ts 1) (Err (fault_of WholeLines 0 0)))
 
 -- the same, and then an order
 abbrev pub table_checked : List Triple → ℕ → Result Unit Fault

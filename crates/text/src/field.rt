@@ -9,12 +9,7 @@ fn blanks(text: &[u8]) -> usize
     ensures blank { take result text.now ≡ replicate result 32 }
     ensures stops { result < length text.now → slice_index text.now result ≢ 32 }
 {
-    for (i, b) in text.iter().enumerate() {
-        if *b != b' ' {
-            return i;
-        }
-    }
-    text.len()
+    text.iter().position(|b| *b != b' ').unwrap_or(text.len())
 }
 
 // The number that `digits` write in base ten, or nothing where one of them is no digit.
@@ -24,7 +19,7 @@ fn number(digits: &[u8]) -> Option<u32>
 {
     let mut n: u32 = 0;
     for b in digits {
-        if *b < b'0' || *b > b'9' {
+        if !b.is_ascii_digit() {
             return None;
         }
         n = 10 * n + u32::from(*b - b'0');
@@ -38,14 +33,14 @@ pub(crate) fn read_field(text: &[u8]) -> Option<u32>
     ensures value { result ≡ field_read text.now }
     ensures reads { Reads text.now result }
 {
-    let start = blanks(text);
-    if start == text.len() {
+    let digits = &text[blanks(text)..];
+    if digits.is_empty() {
         return None;
     }
-    if text[start] == b'0' && start + 1 < text.len() {
+    if digits[0] == b'0' && digits.len() > 1 {
         return None;
     }
-    number(&text[start..])
+    number(digits)
 }
 
 // Writes the text of `n` over the eight bytes.
@@ -53,16 +48,14 @@ pub(crate) fn write_field(n: u32, out: &mut [u8])
     requires { (length out.old ≡ 8) × (Fits n) }
     ensures { out.new ≡ field_of n }
 {
+    out.fill(b' ');
     let mut rest = n;
-    let mut at = out.len();
-    while rest >= 10 {
-        at -= 1;
+    // By place: what is written through `out.iter_mut().rev()` is not known afterwards.
+    for at in (0..out.len()).rev() {
         out[at] = b'0' + (rest % 10) as u8;
         rest /= 10;
-    }
-    at -= 1;
-    out[at] = b'0' + rest as u8;
-    for i in 0..at {
-        out[i] = b' ';
+        if rest == 0 {
+            break;
+        }
     }
 }

@@ -5,6 +5,7 @@ mod field;
 mod line;
 mod lines;
 mod order;
+mod policy;
 mod read;
 mod sizes;
 mod triple;
@@ -12,6 +13,7 @@ mod write;
 
 // What a text holds.
 pub use lines::Lines;
+pub use policy::Policy;
 pub use triple::Triple;
 
 // How large a text can be.

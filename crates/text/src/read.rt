@@ -10,7 +10,7 @@ use crate::line::read_line;
 use crate::lines::Lines;
 use crate::order::check_order;
 use crate::sizes::{LINE, LONGEST};
-use fault::{Fault, Layer};
+use fault::{Fault, Rule};
 
 // The triples that the lines of `text` write, whatever the numbers mean, or the first fault in it.
 pub fn read_lines(text: &[u8]) -> Result<Lines, Fault>
@@ -19,17 +19,12 @@ pub fn read_lines(text: &[u8]) -> Result<Lines, Fault>
     ensures misspelt { MisspeltRefusal text.now result }
     ensures small { PrintableRefusal result }
 {
-    if text.len() == 0 || text.len() % LINE != 0 || text.len() > LONGEST {
-        return Err(Fault {
-            number: 11,
-            layer: Layer::Text,
-            place: (0, 0),
-        });
+    if text.is_empty() || text.len() % LINE != 0 || text.len() > LONGEST {
+        return Err(Rule::WholeLines.broken_at(0, 0));
     }
     let mut lines = Lines::new();
-    for i in 0..text.len() / LINE {
-        let start = LINE * i;
-        let triple = read_line(&text[start..start + LINE], i as u32 + 1)?;
+    for (i, line) in text.chunks_exact(LINE).enumerate() {
+        let triple = read_line(line, i as u32 + 1)?;
         lines.push(triple)?;
     }
     Ok(lines)

@@ -4,13 +4,13 @@
 pub(crate) const FIELD: usize = 8;
 
 // A line: three fields and a line feed.
-pub const LINE: usize = 25;
+pub const LINE: usize = 3 * FIELD + 1;
 
 // The most lines of a text; the fewest is one.
 pub const MOST_LINES: usize = 17;
 
 // The longest text: so many lines.
-pub const LONGEST: usize = 425;
+pub const LONGEST: usize = MOST_LINES * LINE;
 
 // The largest number that a field has room for.
 pub(crate) const LARGEST: u32 = 99_999_999;

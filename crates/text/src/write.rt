@@ -10,7 +10,7 @@ use crate::line::write_line;
 use crate::order::check_order;
 use crate::sizes::{LARGEST, LINE, LONGEST, MOST_LINES};
 use crate::triple::Triple;
-use fault::{Fault, Layer};
+use fault::{Fault, Rule};
 
 // Refuses a number that is too large for a field.
 fn check_number(n: u32, line: u32, field: u32) -> Result<(), Fault>
@@ -19,11 +19,7 @@ fn check_number(n: u32, line: u32, field: u32) -> Result<(), Fault>
     if n <= LARGEST {
         Ok(())
     } else {
-        Err(Fault {
-            number: 13,
-            layer: Layer::Text,
-            place: (line, field),
-        })
+        Err(Rule::WellFormed.broken_at(line, field))
     }
 }
 
@@ -41,21 +37,13 @@ fn check_lines(triples: &[Triple], room: usize) -> Result<(), Fault>
     ensures { result ≡ lines_checked triples.now room }
 {
     if room < LONGEST {
-        return Err(Fault {
-            number: 15,
-            layer: Layer::Text,
-            place: (0, room as u32),
-        });
+        return Err(Rule::RoomToWrite.broken_at(0, room as u32));
     }
-    if triples.len() == 0 || triples.len() > MOST_LINES {
-        return Err(Fault {
-            number: 11,
-            layer: Layer::Text,
-            place: (0, 0),
-        });
+    if triples.is_empty() || triples.len() > MOST_LINES {
+        return Err(Rule::WholeLines.broken_at(0, 0));
     }
-    for i in 0..triples.len() {
-        check_triple(triples[i], i as u32 + 1)?;
+    for (i, triple) in triples.iter().enumerate() {
+        check_triple(*triple, i as u32 + 1)?;
     }
     Ok(())
 }
@@ -75,9 +63,10 @@ fn put(triples: &[Triple], out: &mut [u8]) -> usize
     ensures length { result ≡ 25 * length triples.now }
     ensures bytes { out.new ≡ text_of triples.now ++ drop result out.old }
 {
-    for i in 0..triples.len() {
+    // By place: what is written through `out.chunks_exact_mut(LINE)` is not known afterwards.
+    for (i, triple) in triples.iter().enumerate() {
         let start = LINE * i;
-        write_line(triples[i], &mut out[start..start + LINE]);
+        write_line(*triple, &mut out[start..start + LINE]);
     }
     LINE * triples.len()
 }

@@ -14,7 +14,7 @@ returns-clause-no_job_is_lost_or_made_up g c =
     let rs = rows_of c.args.table.now in
     let cs = c.args.calls.now in
     let start = fresh rs c.args.supply in
-    let all : vec_items c.loop-i.replies ≡ replies step goes cs start = grind (arith, common_steps) in
+    let all : vec_items c.loop-call.replies ≡ replies step goes cs start = grind (arith, common_steps) in
     subst (λ xs. Conserved xs (after_all step goes cs start)) (sym all) (conserved step goes rs c.args.supply cs)
 
 pub returns-clause-counters_tell_the_ticks : goal.returns-clause-counters_tell_the_ticks
@@ -24,5 +24,5 @@ returns-clause-counters_tell_the_ticks g c =
     let rs = rows_of c.args.table.now in
     let cs = c.args.calls.now in
     let start = fresh rs c.args.supply in
-    let all : vec_items c.loop-i.replies ≡ replies step goes cs start = grind (arith, common_steps) in
+    let all : vec_items c.loop-call.replies ≡ replies step goes cs start = grind (arith, common_steps) in
     subst (λ xs. Counted xs (after_all step goes cs start)) (sym all) (counted step goes rs c.args.supply cs)

@@ -8,9 +8,9 @@ ghost use Rattle.run.specs.Holding.{jobs_state};
 
 use super::Dispatcher;
 use crate::counters::Counters;
-use crate::rows::Rows;
+use crate::rows::never_released;
 use dispatch::{Active, Job, Looked, RowState};
-use fault::{Fault, Layer};
+use fault::{Fault, Rule};
 use table::Table;
 
 // The place of a row, counted from 1, among so many; refused with 51.
@@ -19,16 +19,13 @@ fn place(row: u32, count: usize) -> Result<usize, Fault>
     ensures { result ≡ place_of row count }
 {
     if row < 1 || row as usize > count {
-        return Err(Fault {
-            number: 51,
-            layer: Layer::Run,
-            place: (row, count as u32),
-        });
+        return Err(Rule::RowInTable.broken_at(row, count as u32));
     }
     Ok(row as usize - 1)
 }
 
-// A row that is released at this clock.
+// A row that is released at this clock. The last clock is the dispatcher's invariant; the three functions that have only
+// the number ask for as much of it as they need.
 fn released(row: u32, clock: u32, state: RowState) -> RowState
     requires { clock ≤ 4000000000 }
     ensures { result ≡ released row clock state }
@@ -39,13 +36,13 @@ fn released(row: u32, clock: u32, state: RowState) -> RowState
         deadline: clock + state.row.deadline,
     };
     RowState {
-        row: state.row,
         active: Some(Active {
             job,
             cost: state.row.cost,
             ran: 0,
         }),
         next: clock + state.row.period,
+        ..state
     }
 }
 
@@ -54,7 +51,7 @@ impl Dispatcher {
         ensures { jobs_state result ≡ fresh (rows_of table.now) tt }
     {
         Dispatcher {
-            rows: Rows::of(table),
+            rows: never_released(table),
             clock: 0,
             counters: Counters::new(),
         }
@@ -66,17 +63,14 @@ impl Dispatcher {
         ensures refused { is_ok result ≡ false → self.new ≡ self.old }
         ensures job { OnOk result (MakesJob row self.old.clock (jobs_state self.old).rows (jobs_state self.new).rows) }
     {
-        let place = place(row, self.rows.count)?;
-        let state = self.rows.at(place);
+        let rows = self.rows.items();
+        let place = place(row, rows.len())?;
+        let state = rows[place];
         if self.clock < state.next {
-            return Err(Fault {
-                number: 52,
-                layer: Layer::Run,
-                place: (row, state.next - self.clock),
-            });
+            return Err(Rule::PeriodPassed.broken_at(row, state.next - self.clock));
         }
         let released = released(row, self.clock, state);
-        self.rows.put(place, released);
+        self.rows.change(|rows| rows[place] = released);
         Ok(())
     }
 
@@ -86,22 +80,18 @@ impl Dispatcher {
         ensures refused { is_ok result ≡ false → self.new ≡ self.old }
         ensures job { OnOk result (RemovesJob row (jobs_state self.old).rows (jobs_state self.new).rows) }
     {
-        let place = place(row, self.rows.count)?;
-        let state = self.rows.at(place);
+        let rows = self.rows.items();
+        let place = place(row, rows.len())?;
+        let state = rows[place];
         let Some(active) = state.active else {
-            return Err(Fault {
-                number: 53,
-                layer: Layer::Run,
-                place: (row, 0),
-            });
+            return Err(Rule::JobPending.broken_at(row, 0));
         };
         let age = self.clock - active.job.release;
         let cleared = RowState {
-            row: state.row,
             active: None,
-            next: state.next,
+            ..state
         };
-        self.rows.put(place, cleared);
+        self.rows.change(|rows| rows[place] = cleared);
         Ok(age)
     }
 

@@ -8,34 +8,27 @@ ghost use Rattle.run.specs.Listing.{Listed};
 
 use super::Dispatcher;
 use dispatch::{Job, RowState};
-use fault::{Fault, Layer};
+use fault::{Fault, Rule};
 
 // How many jobs are pending.
 fn count(rows: &[RowState]) -> usize
     ensures { result ≡ length (jobs_of rows.now) }
 {
-    let mut n: usize = 0;
-    for i in (0..rows.len()).rev() {
-        let active = rows[i].active;
-        if let Some(_) = active {
-            n += 1;
-        }
-    }
-    n
+    rows.iter().filter(|row| row.active.is_some()).count()
 }
 
-// Writes so many pending jobs to the front of the list, the lowest row first.
-fn write(rows: &[RowState], needed: usize, list: &mut [Job])
-    requires needed { needed ≡ length (jobs_of rows.now) }
-    requires room { needed ≤ length list.old }
-    ensures { list.new ≡ jobs_of rows.now ++ drop needed list.old }
+// Writes the pending jobs to the front of the list, the lowest row first.
+fn write(rows: &[RowState], list: &mut [Job])
+    requires { length (jobs_of rows.now) ≤ length list.old }
+    ensures { list.new ≡ jobs_of rows.now ++ drop (length (jobs_of rows.now)) list.old }
 {
-    let mut n = needed;
-    for i in (0..rows.len()).rev() {
-        let active = rows[i].active;
-        if let Some(pending) = active {
-            n -= 1;
+    // By place: what is written through a zip with the list's places is not known afterwards, and a walk over them that
+    // draws the jobs beside it is two walks in one loop.
+    let mut n: usize = 0;
+    for row in rows {
+        if let Some(pending) = row.active {
             list[n] = pending.job;
+            n += 1;
         }
     }
 }
@@ -45,14 +38,9 @@ impl Dispatcher {
     pub(crate) fn room_for(&self, room: usize) -> Result<usize, Fault>
         ensures { result ≡ pending_answer room (jobs_state self.now) }
     {
-        let rows = self.rows.count;
-        let needed = count(&self.rows.states[..rows]);
+        let needed = count(self.rows.items());
         if room < needed {
-            return Err(Fault {
-                number: 55,
-                layer: Layer::Run,
-                place: (needed as u32, room as u32),
-            });
+            return Err(Rule::RoomForJobs.broken_at(needed as u32, room as u32));
         }
         Ok(needed)
     }
@@ -63,8 +51,7 @@ impl Dispatcher {
         ensures one_each { OneEach (jobs_of (jobs_state self.now).rows) }
     {
         let needed = self.room_for(list.len())?;
-        let rows = self.rows.count;
-        write(&self.rows.states[..rows], needed, list);
+        write(self.rows.items(), list);
         Ok(needed)
     }
 }

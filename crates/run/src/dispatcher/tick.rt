@@ -6,9 +6,9 @@ ghost use Rattle.run.specs.Holding.{jobs_state, passed_by, ticked_by, in_time_to
 ghost use Rattle.run.specs.Serving.{if_granted};
 
 use super::Dispatcher;
-use crate::serve::first;
+use crate::serve::{first, pass};
 use dispatch::{Active, Ticked};
-use fault::{Fault, Layer};
+use fault::{Fault, Rule};
 use order::Order;
 use supply::Grant;
 
@@ -21,10 +21,7 @@ impl Dispatcher {
     {
         match grant {
             Grant::Withheld => None,
-            Grant::Granted => {
-                let count = self.rows.count;
-                first(order, &self.rows.states[..count])
-            }
+            Grant::Granted => first(order, self.rows.items()),
         }
     }
 
@@ -36,7 +33,7 @@ impl Dispatcher {
         ensures state { jobs_state self.new ≡ passed_by grant chosen (jobs_state self.old) }
     {
         let clock = self.clock + 1;
-        let ticked = self.rows.pass(grant, chosen, clock);
+        let ticked = self.rows.change(|rows| pass(rows, grant, chosen, clock));
         self.clock = clock;
         self.counters = self.counters.and(ticked.progress);
         ticked
@@ -47,11 +44,7 @@ impl Dispatcher {
         ensures { result ≡ in_time_to_tick self.now.clock }
     {
         if self.clock >= LAST_CLOCK {
-            return Err(Fault {
-                number: 54,
-                layer: Layer::Run,
-                place: (0, 0),
-            });
+            return Err(Rule::ClockGoesOn.broken_at(0, 0));
         }
         Ok(())
     }

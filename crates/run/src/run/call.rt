@@ -18,6 +18,8 @@ use order::Order;
 use supply::Supply;
 use table::Table;
 
+// The supply's step and the order's relation are written out in the clauses: a definition in specs/ has no bounds to take
+// them from.
 impl<S: Supply, O: Order> Run<S, O> {
     // A run of the table at clock 0, with no job. What holds of every list of calls of it: if the order's test accepts the
     // table over the supply, no tick misses a job and none ends older than its row's limit; and if the busy window closes

@@ -5,7 +5,7 @@ ghost use Rattle.dispatch.specs.Runs.{reply, after};
 ghost use Rattle.run.specs.View.{state_of};
 
 use super::Run;
-use dispatch::{Call, Reply};
+use dispatch::{Answer, Call, Reply};
 use order::Order;
 use supply::Supply;
 
@@ -16,24 +16,15 @@ impl<S: Supply, O: Order> Run<S, O> {
         ensures state { state_of self.new ≡ after S.step (goes_by O.keyed O.before self.old.order) call (state_of self.old) }
         ensures order { self.new.order ≡ self.old.order }
     {
-        match call {
-            Call::Release(row) => match self.release(row) {
-                Ok(()) => Reply::Released,
-                Err(fault) => Reply::Refused(fault),
-            },
-            Call::End(row) => match self.end(row) {
-                Ok(age) => Reply::Ended(age),
-                Err(fault) => Reply::Refused(fault),
-            },
-            Call::Tick(offer) => match self.tick(offer) {
-                Ok(ticked) => Reply::Ticked(ticked),
-                Err(fault) => Reply::Refused(fault),
-            },
-            Call::Look => Reply::Looked(self.look()),
-            Call::Pending(room) => match self.dispatcher.room_for(room) {
-                Ok(count) => Reply::Pending(count),
-                Err(fault) => Reply::Refused(fault),
-            },
-        }
+        Ok(match call {
+            Call::Release(row) => {
+                self.release(row)?;
+                Answer::Released
+            }
+            Call::End(row) => Answer::Ended(self.end(row)?),
+            Call::Tick(offer) => Answer::Ticked(self.tick(offer)?),
+            Call::Look => Answer::Looked(self.look()),
+            Call::Pending(room) => Answer::Pending(self.dispatcher.room_for(room)?),
+        })
     }
 }

@@ -56,6 +56,6 @@ impl Supply for PeriodicServer {
             self.remaining = remaining;
             self.owed = owed;
         }
-        Grant::of(granted)
+        Grant::from(granted)
     }
 }

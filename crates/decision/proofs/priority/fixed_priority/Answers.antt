@@ -1,35 +1,34 @@
-use Rattle.std.proofs.Common.{◌≡◌, ℕ, ◌+◌, ◌<◌, List, length, get_or, take, sym, ap, ◌∙◌, subst, arith}
-use Rattle.std.proofs.lemmas.List.{get_or_default, get_or-take, length-take-le}
-use Rattle.fault.specs.declared.Fault.{Fault}
-use Rattle.fault.specs.declared.Layer.TheVariants.{Decision}
-use Rattle.fault.specs.Layers.{fault_of}
+use Rattle.std.proofs.Common.{ℕ, List, [], ◌∷◌, length, length-append, get_or, Ok, Err, ap, ◌∙◌, arith}
+use Rattle.std.specs.Option.{ok_or}
+use Rattle.std.proofs.lemmas.Result.{err_from_is_err_and}
 use Rattle.table.specs.declared.row.Row.{Row}
-use Rattle.table.specs.Sums.{no_row, row_at}
+use Rattle.table.specs.Sums.{requested}
 use Rattle.table.specs.Tables.{rows_of}
-use Rattle.decision.specs.Decisions.{Response}
 use Rattle.decision.specs.Responses.{responses_of}
+use Rattle.decision.proofs.Responding.{responds, responses_more}
 use Rattle.decision.proofs.priority.fixed_priority.Goals as goal
 
-pub returns-in-None : goal.returns-in-None
-returns-in-None g c =
+pub returns-in_err-response : goal.returns-in_err-response
+unfolding requested
+returns-in_err-response g c =
     let rs : List Row = rows_of c.args.table.now in
+    let rows = c.rows-rows.result.now in
     let i : ℕ = c.loop-i.i in
-    let row = get_or_default c.rows-rows.result.now i c.index-rows-i.result no_row c.loop-i-test.true ∙ ap (λ x. row_at x i) c.rows-rows.ensures.rows in
-    let deadline = ap (λ r. r.deadline) row in (
-      i,
-      omega (arith, ap length c.rows-rows.ensures.rows),
-      (λ j lt. (get_or c.loop-i.times j 0, c.loop-i.invariant.1 j lt)),
-      (λ k lo hi h. c.in-None.ensures k lo (omega (arith, deadline)) h),
-      ap {B = Fault} (λ m. fault_of Decision 41 (i + 1) m) deadline,
-    )
+    let none =
+    responds rs rows (g.S.Supply.bound c.args.supply.now) i c.index-rows-i.result c.met.result (Err c.in_err-response.field-0.0) c.rows-rows.ensures.rows c.index-rows-i.is c.loop-i-test.true c.met.ensures
+    (c.in_err-response.ensures.value ∙ ap (ok_or c.met.result) c.broken_at-miss.ensures) in
+    let p = err_from_is_err_and c.from_residual.result c.from_residual.ensures.1 in
+    rw (p.1, p.2) (i, omega (arith, c.loop-i-test.true, ap length c.rows-rows.ensures.rows), (λ j lt. (get_or (responses_of c.loop-i.responses) j 0, c.loop-i.invariant.1 j lt)), none.0, none.1)
 
-pub returns : goal.returns
-returns g c =
+pub loop-i-preserved : goal.loop-i-preserved
+unfolding requested
+loop-i-preserved g c =
     let rs : List Row = rows_of c.args.table.now in
-    let n : length c.rows-rows.result.now ≡ length rs = ap length c.rows-rows.ensures.rows in
-    let times = c.of.ensures ∙ ap (λ m. take m c.loop-i.times) n in
-    let same : (k : ℕ) → k < length rs → get_or c.loop-i.times k 0 ≡ get_or (responses_of c.of.result) k 0 =
-    λ k lt. sym (ap (λ x. get_or x k 0) times ∙ get_or-take (length rs) c.loop-i.times k 0 lt) in (
-      ap length times ∙ length-take-le (length rs) c.loop-i.times (omega arith),
-      λ k lt. subst (Response rs (g.S.Supply.bound c.args.supply.now) k) (same k lt) (c.loop-i.invariant.1 k (omega arith)),
-    )
+    let rows = c.rows-rows.result.now in
+    let B : ℕ → ℕ = g.S.Supply.bound c.args.supply.now in
+    let i : ℕ = c.loop-i.i in
+    let one =
+    responds rs rows B i c.index-rows-i.result c.met.result (Ok c.in_ok-response.response) c.rows-rows.ensures.rows c.index-rows-i.is c.loop-i-test.true c.met.ensures
+    (c.in_ok-response.ensures.value ∙ ap (ok_or c.met.result) c.broken_at-miss.ensures) in
+    let n = c.loop-i.invariant.0 in
+    (omega (arith, n, ap length c.push.ensures, length-append (responses_of c.loop-i.responses) (c.in_ok-response.response ∷ [])), rw c.push.ensures (responses_more rs B (responses_of c.loop-i.responses) i c.in_ok-response.response n c.loop-i.invariant.1 one))

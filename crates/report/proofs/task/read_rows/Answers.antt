@@ -1,9 +1,9 @@
 use Rattle.std.proofs.Common.{ℕ, ◌+◌, ap, ◌∙◌, ⊎_elim, arith}
 use Rattle.std.proofs.lemmas.List.{take_all}
 use Rattle.std.proofs.lemmas.Result.{err_from_is_err_and}
-use Rattle.fault.specs.declared.Fault.{Fault}
-use Rattle.fault.specs.declared.Layer.TheVariants as layer
-use Rattle.fault.specs.Layers.{fault_of}
+use Rattle.fault.specs.declared.fault.Fault.{Fault}
+use Rattle.fault.specs.declared.rule.Rule.TheVariants as rule
+use Rattle.fault.specs.Rules.{fault_of}
 use Rattle.table.specs.Tables.{rows_of}
 use Rattle.report.specs.Tasks.{FirstBroken}
 use Rattle.report.proofs.Rows.{front_count, rows_more, rows_sound}
@@ -23,7 +23,7 @@ returns-in_err-add c =
       c.loop-row-test.true,
       rows_sound (rows_of c.loop-row.table) ts i c.loop-row.invariant.1 c.loop-row.invariant.0,
       broken.1,
-      broken.2 ∙ ap {B = Fault} (λ m. fault_of layer.Table 32 (m + 1) 0) n,
+      broken.2 ∙ ap {B = Fault} (λ m. fault_of rule.RowBounds (m + 1) 0) n,
     ))
     c.in_err-add.ensures.1 in
     rw (p.1, p.2) broken

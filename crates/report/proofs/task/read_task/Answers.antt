@@ -16,4 +16,4 @@ returns c =
     let ts = c.triples-triples.result.now in
     let read = c.in_ok-lines.ensures in
     let some : 1 ≤ length ts = omega (arith, ap length c.triples-triples.ensures.held, read.spells.0.some) in
-    asked c.args.bytes.now ts _ read.value c.triples-triples.ensures.held some _ (c.of-policy.ensures, c.in_ok-server.ensures.fresh, c.in_ok-table.ensures)
+    asked c.args.bytes.now ts _ read.value c.triples-triples.ensures.held some _ (c.in_ok-policy.ensures, c.in_ok-server.ensures.fresh, c.in_ok-table.ensures)

@@ -1,11 +1,13 @@
-use Rattle.std.proofs.Common.{◌≡◌, ◌+◌, ◌≤◌, ◌++◌, length, take, drop}
-use Rattle.dispatch.specs.Ticks.{struck, missed, lowest}
+use Rattle.std.proofs.Common.{◌≡◌, ◌+◌, ◌≤◌, ◌++◌, map, take, drop, unwrap_or}
+use Rattle.dispatch.specs.Ticks.{missed, lowest}
+use Rattle.run.proofs.Struck.{strike_of}
 use Rattle.run.proofs.serve.strike.Given as goal
 
--- the rows from here on are struck, counted and told
-abbrev pub invariant-loop-i : goal.invariant-loop-i
-invariant-loop-i l =
-    (l.rows ≡ take l.i l.initial.rows ++ struck l.clock (drop l.i l.initial.rows))
-    × (l.missed ≡ missed l.clock (drop l.i l.initial.rows))
-    × (l.lowest ≡ lowest l.clock (drop l.i l.initial.rows))
-    × (l.missed + l.i ≤ length l.initial.rows)
+-- the rows up to here are struck, and with what is still to be struck they are all counted and told
+abbrev pub invariant-loop-row : goal.invariant-loop-row
+invariant-loop-row l = record {
+  rows : l.rows ≡ map (strike_of l.clock) (take l.row-index l.initial.rows) ++ drop l.row-index l.initial.rows;
+  missed : l.missed + missed l.clock (drop l.row-index l.initial.rows) ≡ missed l.clock l.initial.rows;
+  lowest : unwrap_or l.lowest (lowest l.clock (drop l.row-index l.initial.rows)) ≡ lowest l.clock l.initial.rows;
+  few : l.missed ≤ l.row-index;
+}

@@ -1,7 +1,10 @@
-use Rattle.std.proofs.Common.{rules}
-use Rattle.table.specs.Tables.{rows_of}
-use Rattle.table.proofs.Totals.{workload_mono}
+use Rattle.std.proofs.Common.{arith}
+use Rattle.table.proofs.Counts.{released_work, released_size}
+use Rattle.table.proofs.Totals.{sum_by-small}
 use Rattle.decision.proofs.curves.WorkloadCurve.at.Goals as goal
 
-pub returns : goal.returns
-returns c = record { is = search rules; rises = workload_mono (rows_of c.args.self.now.table.now) c.args.self.now.row }
+pub overflow_add-result : goal.overflow_add-result
+overflow_add-result c =
+    let w = c.args.self.now in
+    let t = c.args.t in
+    omega (arith, c.at.ensures, w.row.now.work, w.row.now.time, sum_by-small (released_work t) t (released_size t) w.before.rows.now w.before.few)

@@ -6,9 +6,7 @@ use Rattle.run.proofs.dispatcher.Dispatcher.new.Goals as goal
 
 pub invariant_of-result : goal.invariant_of-result
 invariant_of-result c = record {
-  whole = c.of.ensures.whole;
-  few = c.of.ensures.few;
   early = omega arith;
-  orderly = ∣ subst (Orderly 0 1) (sym c.of.ensures.rows) (orderly_fresh (rows_of c.args.table.now)) ∣₁;
+  orderly = ∣ subst (Orderly 0 1) (sym c.never_released.ensures) (orderly_fresh (rows_of c.args.table.now)) ∣₁;
   fewer = omega arith;
 }

@@ -1,9 +1,8 @@
-use Rattle.std.proofs.Common.{◌≡◌, ◌+◌, ◌++◌, length, take, drop}
+use Rattle.std.proofs.Common.{◌≡◌, ◌++◌, length, take, drop}
 use Rattle.dispatch.specs.Jobs.{jobs_of}
 use Rattle.run.proofs.dispatcher.list.write.Given as goal
 
--- the jobs of the rows from here on stand in their places
-abbrev pub invariant-loop-i : goal.invariant-loop-i
-invariant-loop-i l =
-    (l.n + length (jobs_of (drop l.i l.rows)) ≡ l.needed)
-    × (l.list ≡ take l.n l.initial.list ++ (jobs_of (drop l.i l.rows) ++ drop l.needed l.initial.list))
+-- the jobs of the rows up to here stand in their places
+abbrev pub invariant-loop-row : goal.invariant-loop-row
+invariant-loop-row l =
+    (l.n ≡ length (jobs_of (take l.row-index l.rows))) × (l.list ≡ jobs_of (take l.row-index l.rows) ++ drop l.n l.initial.list)

@@ -30,4 +30,4 @@ returns c =
           let more : eqb s.remaining 1 ≡ false = ne_eqb s.remaining 1 (λ z. omega (arith, w.if-remaining-eq0.false)) in
           w.self-is ∙ same_server _ _ refl refl (sym (ap (λ b. cond b s.period (s.remaining - 1)) more)) (owed ∙ sym (ap (λ b. cond b s.budget (s.owed - cond (server_grants s c.args.offer) 1 0)) more))
     ] in
-    record { answer = c.of.ensures ∙ ap grant g; state = state }
+    record { answer = c.from.ensures ∙ ap grant g; state = state }
