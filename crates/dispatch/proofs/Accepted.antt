@@ -2,14 +2,15 @@
 use Rattle.std.proofs.Common.{◌≡◌, ℕ, ◌-◌, ◌<◌, ◌≤◌, Bool, true, false, cond, ◌&&◌, ltb, leb, length, Some, None, Ok, Err, Option, Result, sym, refl, ap, ◌∙◌, subst}
 use Rattle.std.proofs.lemmas.Bool.{and_parts, leb-true, ltb-true}
 use Rattle.fault.specs.declared.fault.Fault.{Fault}
-use Rattle.fault.specs.Steps.{and_then, map_ok}
+use Rattle.fault.specs.Steps.{and_then}
 use Rattle.supply.specs.declared.grant.Grant.{Grant}
 use Rattle.dispatch.specs.declared.job.Active.{Active}
 use Rattle.dispatch.specs.declared.reply.Ticked.{Ticked}
-use Rattle.dispatch.specs.declared.reply.Answer.{Answer}
+use Rattle.dispatch.specs.declared.reply.Reply.{Reply}
+use Rattle.dispatch.specs.declared.reply.Reply.TheVariants.{Refused}
 use Rattle.dispatch.specs.Jobs.{state_at}
 use Rattle.dispatch.specs.Ticks.{Goes}
-use Rattle.dispatch.specs.Runs.{RunState, Reply, unless_refused, place_of, admit, release_answer, age_of, end_answer, last_clock, ticked, tick_answer}
+use Rattle.dispatch.specs.Runs.{RunState, unless_refused, place_of, admit, release_answer, age_of, end_answer, last_clock, ticked, tick_answer, replied}
 
 -- what holds after an accepted call, and of the state as it was, holds after the call
 pub unless_refused_both : {A B : Type 0} (P : B → Type 0) (r : Result A Fault) (new old : B) → ((x : A) → r ≡ Ok x → P new) → P old → P (unless_refused r new old)
@@ -17,13 +18,13 @@ unless_refused_both P (Ok x) new old accepted refused = accepted x refl
 unless_refused_both P (Err f) new old accepted refused = refused
 
 -- the same of the reply together with the state
-pub reply_both : {A B : Type 0} (P : Reply → B → Type 0) (say : A → Answer) (r : Result A Fault) (new old : B)
-    → ((x : A) → r ≡ Ok x → P (Ok (say x)) new) → ((f : Fault) → P (Err f) old) → P (map_ok say r) (unless_refused r new old)
+pub reply_both : {A B : Type 0} (P : Reply → B → Type 0) (say : A → Reply) (r : Result A Fault) (new old : B)
+    → ((x : A) → r ≡ Ok x → P (say x) new) → ((f : Fault) → P (Refused f) old) → P (replied say r) (unless_refused r new old)
 reply_both P say (Ok x) new old accepted refused = accepted x refl
 reply_both P say (Err f) new old accepted refused = refused f
 
 -- and of the reply alone
-pub replied_both : {A : Type 0} (P : Reply → Type 0) (say : A → Answer) (r : Result A Fault) → ((x : A) → r ≡ Ok x → P (Ok (say x))) → ((f : Fault) → P (Err f)) → P (map_ok say r)
+pub replied_both : {A : Type 0} (P : Reply → Type 0) (say : A → Reply) (r : Result A Fault) → ((x : A) → r ≡ Ok x → P (say x)) → ((f : Fault) → P (Refused f)) → P (replied say r)
 replied_both P say (Ok x) accepted refused = accepted x refl
 replied_both P say (Err f) accepted refused = refused f
 

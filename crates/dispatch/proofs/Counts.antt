@@ -1,5 +1,5 @@
 -- Over any list of calls the counters are what the ticks answered, and no job is lost or made up. Assumes nothing.
-use Rattle.std.proofs.Common.{◌≡◌, ℕ, ◌+◌, ◌-◌, ◌<◌, Bool, true, false, cond, eqb, ltb, List, [], ◌∷◌, map, length, Some, None, Ok, Option, refl, ap, subst, sum_by, arith}
+use Rattle.std.proofs.Common.{◌≡◌, ℕ, ◌+◌, ◌-◌, ◌<◌, Bool, true, false, cond, eqb, ltb, List, [], ◌∷◌, map, length, Some, None, Option, refl, ap, subst, sum_by, arith}
 use Rattle.std.proofs.lemmas.List.Sums.{sum_by-cons}
 use Rattle.supply.specs.declared.grant.Grant.{Grant}
 use Rattle.supply.specs.declared.grant.Grant.TheVariants as grant
@@ -11,11 +11,12 @@ use Rattle.dispatch.specs.declared.job.Active.{Active}
 use Rattle.dispatch.specs.declared.job.RowState.{RowState}
 use Rattle.dispatch.specs.declared.reply.Progress.TheVariants.{Ran, Ended}
 use Rattle.dispatch.specs.declared.reply.Ticked.{Ticked}
-use Rattle.dispatch.specs.declared.reply.Answer.TheVariants as told
+use Rattle.dispatch.specs.declared.reply.Reply.{Reply}
+use Rattle.dispatch.specs.declared.reply.Reply.TheVariants as told
 use Rattle.dispatch.specs.Progresses.{granted_one, ran_one, idle_one, ended_one}
 use Rattle.dispatch.specs.Jobs.{new_row, no_state, with_active, change, released, cleared, and_job, jobs_of}
 use Rattle.dispatch.specs.Ticks.{Goes, first, worked, served, progress, late, kept, struck, missed}
-use Rattle.dispatch.specs.Runs.{RunState, Reply, fresh, with_rows, release_answer, end_answer, credited, ticked, tick_answer, passed, pending_answer, reply, after, replies, after_all}
+use Rattle.dispatch.specs.Runs.{RunState, fresh, with_rows, release_answer, end_answer, credited, ticked, tick_answer, passed, pending_answer, reply, after, replies, after_all}
 use Rattle.dispatch.specs.Orderly.{Orderly}
 use Rattle.dispatch.specs.Promises.{tick_one, release_one, end_one, missed_of, of_tick, Conserved, Counted}
 use Rattle.dispatch.proofs.Lists.{At, at_from, sum_by_change_by}
@@ -95,7 +96,7 @@ module _ {S : Type 0} (step : S → Bool → (Grant × S)) (goes : Goes) where
   abbrev pub Balances : RunState S → Reply → RunState S → Type 0
   Balances st r new = release_one r + length (jobs_of st.rows) ≡ end_one r + missed_of r + length (jobs_of new.rows)
 
-  balances_tick : (offer : Bool) (st : RunState S) → Orderly st.clock 1 st.rows → Balances st (Ok (told.Ticked (ticked step goes offer st))) (passed step goes offer st)
+  balances_tick : (offer : Bool) (st : RunState S) → Orderly st.clock 1 st.rows → Balances st (told.Ticked (ticked step goes offer st)) (passed step goes offer st)
   balances_tick offer st orderly =
       omega (
         arith,
@@ -135,7 +136,7 @@ module _ {S : Type 0} (step : S → Bool → (Grant × S)) (goes : Goes) where
       (λ f. refl)
   balances (call.Tick offer) st orderly =
       reply_both (Balances st) told.Ticked (tick_answer step goes offer st) (passed step goes offer st) st
-      (λ t is. subst (λ (u : Ticked). Balances st (Ok (told.Ticked u)) (passed step goes offer st)) (tick_accepted step goes offer st t is).1 (balances_tick offer st orderly))
+      (λ t is. subst (λ (u : Ticked). Balances st (told.Ticked u) (passed step goes offer st)) (tick_accepted step goes offer st t is).1 (balances_tick offer st orderly))
       (λ f. refl)
   balances call.Look st orderly = refl
   balances (call.Pending room) st orderly = replied_both (λ r. Balances st r st) told.Pending (pending_answer room st) (λ n is. refl) (λ f. refl)
@@ -148,7 +149,7 @@ module _ {S : Type 0} (step : S → Bool → (Grant × S)) (goes : Goes) where
       × (new.ran ≡ st.ran + of_tick ran_one r)
       × (new.idle ≡ st.idle + of_tick idle_one r)
 
-  adds_none : (st : RunState S) → CountersAdd st (Ok told.Released) st
+  adds_none : (st : RunState S) → CountersAdd st told.Released st
   adds_none st = (omega arith, omega arith, omega arith, omega arith)
 
   pub counters_after : (c : Call) (st : RunState S) → CountersAdd st (reply step goes c st) (after step goes c st)
@@ -162,7 +163,7 @@ module _ {S : Type 0} (step : S → Bool → (Grant × S)) (goes : Goes) where
       (λ f. adds_none st)
   counters_after (call.Tick offer) st =
       reply_both (CountersAdd st) told.Ticked (tick_answer step goes offer st) (passed step goes offer st) st
-      (λ t is. subst (λ (u : Ticked). CountersAdd st (Ok (told.Ticked u)) (passed step goes offer st)) (tick_accepted step goes offer st t is).1 (refl, refl, refl, refl))
+      (λ t is. subst (λ (u : Ticked). CountersAdd st (told.Ticked u) (passed step goes offer st)) (tick_accepted step goes offer st t is).1 (refl, refl, refl, refl))
       (λ f. adds_none st)
   counters_after call.Look st = adds_none st
   counters_after (call.Pending room) st = replied_both (λ r. CountersAdd st r st) told.Pending (pending_answer room st) (λ n is. adds_none st) (λ f. adds_none st)

@@ -1,5 +1,5 @@
 -- What holds over every list of calls of a new run. Assumes nothing.
-use Rattle.std.specs.Prelude.{◌≡◌, ℕ, ◌+◌, ◌≤◌, Bool, List, [], ◌∷◌, ◌++◌, length, sum_by, Ok, Err}
+use Rattle.std.specs.Prelude.{◌≡◌, ℕ, ◌+◌, ◌≤◌, Bool, List, [], ◌∷◌, ◌++◌, length, sum_by}
 use Rattle.supply.specs.declared.grant.Grant.{Grant}
 use Rattle.table.specs.declared.row.Row.{Row}
 use Rattle.dispatch.specs.declared.call.Call.{Call}
@@ -7,11 +7,12 @@ use Rattle.dispatch.specs.declared.call.Call.TheVariants as call
 use Rattle.dispatch.specs.declared.reply.Progress.{Progress}
 use Rattle.dispatch.specs.declared.reply.Progress.TheVariants.{Withheld, Idle, Ran, Ended}
 use Rattle.dispatch.specs.declared.reply.Ticked.{Ticked}
-use Rattle.dispatch.specs.declared.reply.Answer.TheVariants as told
+use Rattle.dispatch.specs.declared.reply.Reply.{Reply}
+use Rattle.dispatch.specs.declared.reply.Reply.TheVariants as told
 use Rattle.dispatch.specs.Progresses.{granted_one, ran_one, idle_one, ended_one}
 use Rattle.dispatch.specs.Jobs.{jobs_of}
 use Rattle.dispatch.specs.Ticks.{Goes}
-use Rattle.dispatch.specs.Runs.{RunState, fresh, Reply, reply, replies, after_all}
+use Rattle.dispatch.specs.Runs.{RunState, fresh, reply, replies, after_all}
 
 -- an age limit for each row, counted from 1
 
@@ -31,12 +32,12 @@ row_named (call.Pending room) = 0
 
 -- a tick answers 0 missed, and a job that ends, by an end or by a tick, is no older than its row's limit
 abbrev pub InTime : (ℕ → ℕ) → Call → Reply → Type 0
-InTime limit c (Ok told.Released) = Unit {0}
-InTime limit c (Ok (told.Ended age)) = age ≤ limit (row_named c)
-InTime limit c (Ok (told.Ticked t)) = (t.missed ≡ 0) × EndsWithin limit t.progress
-InTime limit c (Ok (told.Looked l)) = Unit {0}
-InTime limit c (Ok (told.Pending n)) = Unit {0}
-InTime limit c (Err f) = Unit {0}
+InTime limit c told.Released = Unit {0}
+InTime limit c (told.Ended age) = age ≤ limit (row_named c)
+InTime limit c (told.Ticked t) = (t.missed ≡ 0) × EndsWithin limit t.progress
+InTime limit c (told.Looked l) = Unit {0}
+InTime limit c (told.Pending n) = Unit {0}
+InTime limit c (told.Refused f) = Unit {0}
 
 -- of each call with its reply
 abbrev pub Each : (Call → Reply → Type 0) → List Call → List Reply → Type 0
@@ -53,45 +54,45 @@ module _ {S : Type 0} (step : S → Bool → (Grant × S)) (goes : Goes) (rs : L
 -- 1 for a tick that was not refused, for an accepted release, and for a job that was ended; and the jobs missed
 
 abbrev pub tick_one : Reply → ℕ
-tick_one (Ok told.Released) = 0
-tick_one (Ok (told.Ended age)) = 0
-tick_one (Ok (told.Ticked t)) = 1
-tick_one (Ok (told.Looked l)) = 0
-tick_one (Ok (told.Pending n)) = 0
-tick_one (Err f) = 0
+tick_one told.Released = 0
+tick_one (told.Ended age) = 0
+tick_one (told.Ticked t) = 1
+tick_one (told.Looked l) = 0
+tick_one (told.Pending n) = 0
+tick_one (told.Refused f) = 0
 
 abbrev pub release_one : Reply → ℕ
-release_one (Ok told.Released) = 1
-release_one (Ok (told.Ended age)) = 0
-release_one (Ok (told.Ticked t)) = 0
-release_one (Ok (told.Looked l)) = 0
-release_one (Ok (told.Pending n)) = 0
-release_one (Err f) = 0
+release_one told.Released = 1
+release_one (told.Ended age) = 0
+release_one (told.Ticked t) = 0
+release_one (told.Looked l) = 0
+release_one (told.Pending n) = 0
+release_one (told.Refused f) = 0
 
 abbrev pub end_one : Reply → ℕ
-end_one (Ok told.Released) = 0
-end_one (Ok (told.Ended age)) = 1
-end_one (Ok (told.Ticked t)) = ended_one t.progress
-end_one (Ok (told.Looked l)) = 0
-end_one (Ok (told.Pending n)) = 0
-end_one (Err f) = 0
+end_one told.Released = 0
+end_one (told.Ended age) = 1
+end_one (told.Ticked t) = ended_one t.progress
+end_one (told.Looked l) = 0
+end_one (told.Pending n) = 0
+end_one (told.Refused f) = 0
 
 abbrev pub missed_of : Reply → ℕ
-missed_of (Ok told.Released) = 0
-missed_of (Ok (told.Ended age)) = 0
-missed_of (Ok (told.Ticked t)) = t.missed
-missed_of (Ok (told.Looked l)) = 0
-missed_of (Ok (told.Pending n)) = 0
-missed_of (Err f) = 0
+missed_of told.Released = 0
+missed_of (told.Ended age) = 0
+missed_of (told.Ticked t) = t.missed
+missed_of (told.Looked l) = 0
+missed_of (told.Pending n) = 0
+missed_of (told.Refused f) = 0
 
 -- a number of each tick's progress
 abbrev pub of_tick : (Progress → ℕ) → Reply → ℕ
-of_tick f (Ok told.Released) = 0
-of_tick f (Ok (told.Ended age)) = 0
-of_tick f (Ok (told.Ticked t)) = f t.progress
-of_tick f (Ok (told.Looked l)) = 0
-of_tick f (Ok (told.Pending n)) = 0
-of_tick f (Err f') = 0
+of_tick f told.Released = 0
+of_tick f (told.Ended age) = 0
+of_tick f (told.Ticked t) = f t.progress
+of_tick f (told.Looked l) = 0
+of_tick f (told.Pending n) = 0
+of_tick f (told.Refused f') = 0
 
 -- no job is lost or made up: each accepted release was ended, or missed, or is pending
 abbrev pub Conserved : {S : Type 0} → List Reply → RunState S → Type 0
@@ -110,8 +111,8 @@ module _ {S : Type 0} (step : S → Bool → (Grant × S)) (goes : Goes) where
   QuietTick cs st =
       (before : List Call) × (offer : Bool) × (further : List Call)
       × (cs ≡ before ++ call.Tick offer ∷ further)
-      × ((t : Ticked) × (reply step goes (call.Tick offer) (after_all step goes before st) ≡ Ok (told.Ticked t)))
-      × (reply step goes (call.Pending 0) (after_all step goes (before ++ call.Tick offer ∷ []) st) ≡ Ok (told.Pending 0))
+      × ((t : Ticked) × (reply step goes (call.Tick offer) (after_all step goes before st) ≡ told.Ticked t))
+      × (reply step goes (call.Pending 0) (after_all step goes (before ++ call.Tick offer ∷ []) st) ≡ told.Pending 0)
 
   -- among any l ticks in a row, whatever is called before and between, one ends with nothing pending
   abbrev pub QuietWithin : ℕ → RunState S → Type 0

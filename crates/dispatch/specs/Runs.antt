@@ -3,7 +3,7 @@ use Rattle.std.specs.Prelude.{ℕ, ◌+◌, ◌-◌, Bool, cond, ◌&&◌, List,
 use Rattle.fault.specs.declared.fault.Fault.{Fault}
 use Rattle.fault.specs.declared.rule.Rule.TheVariants as rule
 use Rattle.fault.specs.Rules.{fault_of}
-use Rattle.fault.specs.Steps.{and_then, map_ok}
+use Rattle.fault.specs.Steps.{and_then}
 use Rattle.supply.specs.declared.grant.Grant.{Grant}
 use Rattle.table.specs.declared.row.Row.{Row}
 use Rattle.dispatch.specs.declared.call.Call.{Call}
@@ -13,8 +13,8 @@ use Rattle.dispatch.specs.declared.job.RowState.{RowState}
 use Rattle.dispatch.specs.declared.reply.Progress.{Progress}
 use Rattle.dispatch.specs.declared.reply.Ticked.{Ticked}
 use Rattle.dispatch.specs.declared.reply.Looked.{Looked}
-use Rattle.dispatch.specs.declared.reply.Answer.{Answer}
-use Rattle.dispatch.specs.declared.reply.Answer.TheVariants as told
+use Rattle.dispatch.specs.declared.reply.Reply.{Reply}
+use Rattle.dispatch.specs.declared.reply.Reply.TheVariants as told
 use Rattle.dispatch.specs.Progresses.{granted_one, ran_one, idle_one}
 use Rattle.dispatch.specs.Jobs.{new_row, state_at, change, released, cleared, jobs_of}
 use Rattle.dispatch.specs.Ticks.{Goes, first, served, progress, struck, missed, lowest}
@@ -117,17 +117,17 @@ pending_answer room st =
 
 -- any call
 
--- its answer, or the fault that it is refused with
-abbrev pub Reply : Type 0
-Reply = Result Answer Fault
+abbrev pub replied : {A : Type 0} → (A → Reply) → Result A Fault → Reply
+replied say (Ok x) = say x
+replied say (Err f) = told.Refused f
 
 module _ {S : Type 0} (step : S → Bool → (Grant × S)) (goes : Goes) where
   abbrev pub reply : Call → RunState S → Reply
-  reply (call.Release i) st = map_ok (λ _. told.Released) (release_answer i st)
-  reply (call.End i) st = map_ok told.Ended (end_answer i st)
-  reply (call.Tick offer) st = map_ok told.Ticked (tick_answer step goes offer st)
-  reply call.Look st = Ok (told.Looked (look_answer st))
-  reply (call.Pending room) st = map_ok told.Pending (pending_answer room st)
+  reply (call.Release i) st = replied (λ _. told.Released) (release_answer i st)
+  reply (call.End i) st = replied told.Ended (end_answer i st)
+  reply (call.Tick offer) st = replied told.Ticked (tick_answer step goes offer st)
+  reply call.Look st = told.Looked (look_answer st)
+  reply (call.Pending room) st = replied told.Pending (pending_answer room st)
 
   abbrev pub after : Call → RunState S → RunState S
   after (call.Release i) st = after_release i st

@@ -10,4 +10,4 @@ pub mod reply;
 
 pub use call::Call;
 pub use job::{Active, Job, RowState};
-pub use reply::{Answer, Looked, Progress, Reply, Ticked};
+pub use reply::{Looked, Progress, Reply, Ticked};

@@ -66,16 +66,17 @@ pub struct Looked {
     pub idle: u32,
 }
 
-// What an accepted call answers: the age of the job that an end removes, what a tick or a look answers, or the number of
-// pending jobs.
+// What a call answers: the age of the job that an end removes, what a tick or a look answers, the number of pending
+// jobs, or a refusal.
 #[derive(Clone, Copy, PartialEq, Eq, Debug)]
-pub enum Answer {
+pub enum Reply {
     Released,
     Ended(u32),
     Ticked(Ticked),
     Looked(Looked),
     Pending(usize),
+    Refused(Fault),
 }
 
-// What a call is replied: its answer, or the fault that it is refused with.
-pub type Reply = Result<Answer, Fault>;
+// A replay keeps a reply for each call.
+const _: () = prove!(size_of::<Reply>() == 24);

@@ -1,14 +1,14 @@
 // What a call was replied, as six numbers for C: the fault's number, or 0; then the fault's layer and place, or what was
 // answered; then zeros.
-use dispatch::{Answer, Reply};
+use dispatch::Reply;
 
 // No `From`, since replies are of a crate below and lists of numbers of none.
 pub(crate) fn numbers(reply: Reply) -> [u32; 6] {
     match reply {
-        Ok(Answer::Released) => [0; 6],
-        Ok(Answer::Ended(age)) => [0, age, 0, 0, 0, 0],
+        Reply::Released => [0; 6],
+        Reply::Ended(age) => [0, age, 0, 0, 0, 0],
         // kind, row, age, number missed, lowest missed row
-        Ok(Answer::Ticked(ticked)) => [
+        Reply::Ticked(ticked) => [
             0,
             ticked.progress.number(),
             ticked.progress.row(),
@@ -16,9 +16,9 @@ pub(crate) fn numbers(reply: Reply) -> [u32; 6] {
             ticked.missed,
             ticked.lowest,
         ],
-        Ok(Answer::Looked(looked)) => [0, looked.clock, looked.granted, looked.ran, looked.idle, 0],
-        Ok(Answer::Pending(count)) => [0, (count & 0xffff_ffff) as u32, 0, 0, 0, 0],
-        Err(fault) => [
+        Reply::Looked(looked) => [0, looked.clock, looked.granted, looked.ran, looked.idle, 0],
+        Reply::Pending(count) => [0, (count & 0xffff_ffff) as u32, 0, 0, 0, 0],
+        Reply::Refused(fault) => [
             fault.number(),
             fault.layer().number(),
             fault.place.0,

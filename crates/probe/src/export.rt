@@ -4,6 +4,7 @@ use crate::measure::{busy_table, stretches};
 use crate::play::play;
 use crate::setting::{read_head, read_server, read_table};
 use crate::words::Written;
+use dispatch::Reply;
 use fault::Fault;
 use order::{EarliestDeadline, FixedPriority};
 use run::Run;
@@ -35,7 +36,7 @@ fn probe(script: &[u32], written: &mut Written<'_>) -> Result<(), Fault> {
 pub extern "C" fn timerdaisy_probe(script: &[u32], out: &mut [u32]) -> usize {
     let mut written = Written::new(out);
     if let Err(fault) = probe(script, &mut written) {
-        written.put_all(numbers(Err(fault)));
+        written.put_all(numbers(Reply::Refused(fault)));
     }
     written.count()
 }

@@ -1,7 +1,7 @@
 // The calls of a script, carried out one after the other. A call is two numbers, what is asked and an argument.
 use crate::answer::numbers;
 use crate::words::{Written, next};
-use dispatch::{Answer, Call, Job, Reply};
+use dispatch::{Call, Job, Reply};
 use order::Order;
 use run::Run;
 use std::slice::Iter;
@@ -54,7 +54,7 @@ fn pending<O: Order>(run: &Run<PeriodicServer, O>, room: usize, written: &mut Wr
     let room = room.min(PLACES);
     let reply = run
         .pending(&mut list[..room])
-        .map(|count| Answer::Pending(count));
+        .map_or_else(Reply::Refused, Reply::Pending);
     written.put_all(numbers(reply));
     for job in list {
         written.put(job.row);

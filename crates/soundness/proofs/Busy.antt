@@ -7,7 +7,6 @@ use Rattle.std.proofs.lemmas.List.Sums.{sum_by-cons}
 use Rattle.std.proofs.lemmas.Bool.{cases_lt}
 use Rattle.fault.specs.declared.rule.Rule.TheVariants as rule
 use Rattle.fault.specs.Rules.{fault_of}
-use Rattle.fault.specs.Steps.{map_ok}
 use Rattle.supply.specs.declared.grant.Grant.{Grant}
 use Rattle.supply.specs.declared.grant.Grant.TheVariants as grant
 use Rattle.supply.specs.Grants.{spent}
@@ -21,10 +20,11 @@ use Rattle.dispatch.specs.declared.job.Job.{Job}
 use Rattle.dispatch.specs.declared.job.Active.{Active}
 use Rattle.dispatch.specs.declared.job.RowState.{RowState}
 use Rattle.dispatch.specs.declared.reply.Ticked.{Ticked}
-use Rattle.dispatch.specs.declared.reply.Answer.TheVariants as told
+use Rattle.dispatch.specs.declared.reply.Reply.{Reply}
+use Rattle.dispatch.specs.declared.reply.Reply.TheVariants as told
 use Rattle.dispatch.specs.Jobs.{new_row, no_state, with_active, change, released, cleared}
 use Rattle.dispatch.specs.Ticks.{Goes, first, served, kept, struck}
-use Rattle.dispatch.specs.Runs.{RunState, Reply, fresh, with_rows, release_answer, end_answer, credited, tick_answer, passed, unless_refused, reply, after, replies, after_all}
+use Rattle.dispatch.specs.Runs.{RunState, fresh, with_rows, release_answer, end_answer, credited, tick_answer, passed, unless_refused, replied, reply, after, replies, after_all}
 use Rattle.dispatch.specs.Orderly.{Orderly, OrderlyJob}
 use Rattle.dispatch.specs.Promises.{tick_one, QuietTick, QuietWithin}
 use Rattle.dispatch.proofs.Lists.{At, at_from}
@@ -115,7 +115,7 @@ module _ {S : Type 0} (bound floor : S → ℕ → ℕ) (step : S → Bool → (
 
   -- a call that is an accepted tick and leaves nothing pending
   abbrev Quiets : Call → Reply → RunState S → Type 0
-  Quiets c r new = (offer : Bool) × (c ≡ call.Tick offer) × ((t : Ticked) × (r ≡ Ok (told.Ticked t))) × AllByRecursion Free new.rows
+  Quiets c r new = (offer : Bool) × (c ≡ call.Tick offer) × ((t : Ticked) × (r ≡ told.Ticked t)) × AllByRecursion Free new.rows
 
   covered_after : (e : ℕ) (c : Call) (st : RunState S) → Regular bound rs B st → Covered e st
       → Quiets c (reply step goes c st) (after step goes c st) ⊎ Covered e (after step goes c st)
@@ -141,9 +141,9 @@ module _ {S : Type 0} (bound floor : S → ℕ → ℕ) (step : S → Bool → (
 
   -- lists of calls
 
-  pending_none : (new : RunState S) → AllByRecursion Free new.rows → reply step goes (call.Pending 0) new ≡ Ok (told.Pending 0)
+  pending_none : (new : RunState S) → AllByRecursion Free new.rows → reply step goes (call.Pending 0) new ≡ told.Pending 0
   pending_none new free =
-      ap (λ (js : List Job). map_ok told.Pending (cond (leb (length js) 0) (Ok (length js)) (Err (fault_of rule.RoomForJobs (length js) 0)))) (free_no_jobs new.rows free)
+      ap (λ (js : List Job). replied told.Pending (cond (leb (length js) 0) (Ok (length js)) (Err (fault_of rule.RoomForJobs (length js) 0)))) (free_no_jobs new.rows free)
 
   quiet_here : (c : Call) (cs : List Call) (st : RunState S) → Quiets c (reply step goes c st) (after step goes c st) → QuietTick step goes (c ∷ cs) st
   quiet_here c cs st quiets =
@@ -153,8 +153,8 @@ module _ {S : Type 0} (bound floor : S → ℕ → ℕ) (step : S → Bool → (
         offer,
         cs,
         ap (λ d. d ∷ cs) is,
-        subst (λ d. (t : Ticked) × (reply step goes d st ≡ Ok (told.Ticked t))) is quiets.2,
-        subst (λ d. reply step goes (call.Pending 0) (after step goes d st) ≡ Ok (told.Pending 0)) is (pending_none (after step goes c st) quiets.3),
+        subst (λ d. (t : Ticked) × (reply step goes d st ≡ told.Ticked t)) is quiets.2,
+        subst (λ d. reply step goes (call.Pending 0) (after step goes d st) ≡ told.Pending 0) is (pending_none (after step goes c st) quiets.3),
       )
 
   quiet_further : (c : Call) (cs : List Call) (st : RunState S) → QuietTick step goes cs (after step goes c st) → QuietTick step goes (c ∷ cs) st

@@ -1,6 +1,6 @@
 -- How a run comes to answer in time: by an invariant that every call keeps, under which pending jobs are young and none
 -- is missed. Assumes nothing.
-use Rattle.std.proofs.Common.{◌≡◌, ℕ, ◌+◌, ◌-◌, ◌<◌, Bool, true, false, cond, ltb, List, [], ◌∷◌, length, Some, None, Ok, Option, refl, subst, arith}
+use Rattle.std.proofs.Common.{◌≡◌, ℕ, ◌+◌, ◌-◌, ◌<◌, Bool, true, false, cond, ltb, List, [], ◌∷◌, length, Some, None, Option, refl, subst, arith}
 use Rattle.supply.specs.declared.grant.Grant.{Grant}
 use Rattle.supply.specs.declared.grant.Grant.TheVariants as grant
 use Rattle.table.specs.declared.row.Row.{Row}
@@ -8,7 +8,7 @@ use Rattle.dispatch.specs.declared.call.Call.{Call}
 use Rattle.dispatch.specs.declared.call.Call.TheVariants as call
 use Rattle.dispatch.specs.declared.job.Active.{Active}
 use Rattle.dispatch.specs.declared.reply.Progress.TheVariants.{Ran, Ended}
-use Rattle.dispatch.specs.declared.reply.Answer.TheVariants as told
+use Rattle.dispatch.specs.declared.reply.Reply.TheVariants as told
 use Rattle.dispatch.specs.Jobs.{state_at}
 use Rattle.dispatch.specs.Ticks.{Goes, first, progress, missed}
 use Rattle.dispatch.specs.Runs.{RunState, fresh, release_answer, end_answer, credited, tick_answer, pending_answer, reply, after, replies}
@@ -51,7 +51,7 @@ module _ {S : Type 0} (step : S → Bool → (Grant × S)) (goes : Goes) (limit 
   in_time (call.Tick offer) st orderly young unmissed =
       replied_both (InTime (from_one limit) (call.Tick offer)) told.Ticked (tick_answer step goes offer st)
       (λ t is.
-      subst (λ t. InTime (from_one limit) (call.Tick offer) (Ok (told.Ticked t))) (tick_accepted step goes offer st t is).1
+      subst (λ t. InTime (from_one limit) (call.Tick offer) (told.Ticked t)) (tick_accepted step goes offer st t is).1
       (unmissed offer, ends_within st orderly young (step st.supply offer).0 (first goes st.rows) refl))
       (λ f. tt)
   in_time call.Look st orderly young unmissed = tt

@@ -1,6 +1,5 @@
 // What support sees of a recording that is run again.
-use crate::refusal::refusal;
-use dispatch::{Answer, Call, Progress, Ticked};
+use dispatch::{Call, Progress, Reply, Ticked};
 use fault::Layer;
 use std::test::Fail;
 use support::{Failure, replay_by_deadline};
@@ -24,10 +23,16 @@ fn a_recorded_day_is_run_again(rt: HostRuntime) -> Result<(), Fail> {
         missed: 0,
         lowest: 0,
     };
-    assert_eq!(rt; replies[0], Ok(Answer::Released));
-    assert_eq!(rt; refusal(replies[1]), Some((51, Layer::Run, (2, 1))));
-    assert_eq!(rt; replies[2], Ok(Answer::Ticked(ticked)));
-    assert_eq!(rt; replies[3], Ok(Answer::Pending(0)));
+    assert_eq!(rt; replies[0], Reply::Released);
+    let Reply::Refused(fault) = replies[1] else {
+        return Err(Fail::new("the table has one row"));
+    };
+    assert_eq!(rt;
+        (fault.number(), fault.layer(), fault.place),
+        (51, Layer::Run, (2, 1))
+    );
+    assert_eq!(rt; replies[2], Reply::Ticked(ticked));
+    assert_eq!(rt; replies[3], Reply::Pending(0));
     Ok(())
 }
 

@@ -9,7 +9,8 @@ use Rattle.table.specs.Sums.{row_at}
 use Rattle.decision.specs.Decisions.{Scheduled}
 use Rattle.dispatch.specs.declared.call.Call.{Call}
 use Rattle.dispatch.specs.Ticks.{Goes}
-use Rattle.dispatch.specs.Runs.{fresh, Reply, replies}
+use Rattle.dispatch.specs.declared.reply.Reply.{Reply}
+use Rattle.dispatch.specs.Runs.{fresh, replies}
 use Rattle.dispatch.specs.Promises.{Each, InTime}
 use Rattle.order.specs.Orders.{due_sooner}
 use Rattle.support.specs.declared.failure.Failure.{Failure}
